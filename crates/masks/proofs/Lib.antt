@@ -1,0 +1,3 @@
+pub mod Bitlaws
+pub mod Flips
+pub mod Joins

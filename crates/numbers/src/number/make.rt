@@ -1,0 +1,47 @@
+// Making a number from a byte, and the byte of a number.
+ghost use mathlib.Core.Path.{_≡_};
+ghost use Prim.Native.Nat.{_<_};
+ghost use Rattle.numbers.specs.Causes.{told-as};
+ghost use Rattle.numbers.specs.Faults.{number-cause};
+ghost use Rattle.numbers.specs.Numbers.{number-answer, key-number, door-number};
+use crate::fault::NumberFault;
+use crate::number::DoorNo;
+use crate::number::KeyNo;
+
+impl KeyNo {
+    pub fn new(value: u8) -> Result<KeyNo, NumberFault>
+        ensures { λ r. ⌜ told-as key-number number-cause r ≡ number-answer value ⌝ }
+    {
+        if value < 64 {
+            Ok(KeyNo { value })
+        } else {
+            Err(NumberFault::TooHigh)
+        }
+    }
+
+    pub fn number(self) -> u8
+        ensures value { λ r. ⌜ r ≡ key-number self ⌝ }
+        ensures bound { λ r. ⌜ r < 64 ⌝ }
+    {
+        self.value
+    }
+}
+
+impl DoorNo {
+    pub fn new(value: u8) -> Result<DoorNo, NumberFault>
+        ensures { λ r. ⌜ told-as door-number number-cause r ≡ number-answer value ⌝ }
+    {
+        if value < 64 {
+            Ok(DoorNo { value })
+        } else {
+            Err(NumberFault::TooHigh)
+        }
+    }
+
+    pub fn number(self) -> u8
+        ensures value { λ r. ⌜ r ≡ door-number self ⌝ }
+        ensures bound { λ r. ⌜ r < 64 ⌝ }
+    {
+        self.value
+    }
+}

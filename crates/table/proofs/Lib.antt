@@ -1,0 +1,4 @@
+pub mod Shifts
+pub mod SetLaws
+pub mod Ups
+pub mod Places
