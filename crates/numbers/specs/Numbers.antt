@@ -7,7 +7,7 @@ use Rattle.std.specs.declared.result.Result.the-variants.{Ok, Err}
 use Rattle.numbers.specs.declared.cause.Cause.{Cause}
 use Rattle.numbers.specs.declared.number.KeyNo.{KeyNo}
 use Rattle.numbers.specs.declared.number.DoorNo.{DoorNo}
-use Rattle.numbers.specs.declared.size.Sizes.{Sizes}
+use Rattle.numbers.specs.declared.number.Sizes.{Sizes}
 use Rattle.numbers.specs.Causes.{bare}
 
 abbrev pub key-number : KeyNo → ℕ

@@ -1,16 +1,25 @@
-// Key numbers and door numbers: two types, each always below 64, so that neither is taken for the other.
-ghost use Prim.Native.Nat.{_<_};
+// Numbers that their types keep in range. Key and door numbers are two types, so that neither is taken for the other.
+ghost use Prim.Native.Nat.{_<_, _≤_};
 
 #[derive(Clone, Copy)]
 pub struct KeyNo {
-    value: u8,
+    pub(crate) value: u8,
     ghost below: { value < 64 },
 }
 
 #[derive(Clone, Copy)]
 pub struct DoorNo {
-    value: u8,
+    pub(crate) value: u8,
     ghost below: { value < 64 },
 }
 
-pub mod make;
+// How many keys and how many doors a plan has.
+#[derive(Clone, Copy)]
+pub struct Sizes {
+    pub(crate) keys: u8,
+    pub(crate) doors: u8,
+    ghost some_key: { 1 ≤ keys },
+    ghost few_keys: { keys ≤ 64 },
+    ghost some_door: { 1 ≤ doors },
+    ghost few_doors: { doors ≤ 64 },
+}

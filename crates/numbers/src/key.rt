@@ -1,11 +1,10 @@
-// Making a number from a byte, and the byte of a number.
+// Making a key number from a byte, and the byte of a key number.
 ghost use mathlib.Core.Path.{_≡_};
 ghost use Prim.Native.Nat.{_<_};
 ghost use Rattle.numbers.specs.Causes.{told-as};
 ghost use Rattle.numbers.specs.Faults.{number-cause};
-ghost use Rattle.numbers.specs.Numbers.{number-answer, key-number, door-number};
+ghost use Rattle.numbers.specs.Numbers.{number-answer, key-number};
 use crate::fault::NumberFault;
-use crate::number::DoorNo;
 use crate::number::KeyNo;
 
 impl KeyNo {
@@ -21,25 +20,6 @@ impl KeyNo {
 
     pub fn number(self) -> u8
         ensures value { λ r. ⌜ r ≡ key-number self ⌝ }
-        ensures bound { λ r. ⌜ r < 64 ⌝ }
-    {
-        self.value
-    }
-}
-
-impl DoorNo {
-    pub fn new(value: u8) -> Result<DoorNo, NumberFault>
-        ensures { λ r. ⌜ told-as door-number number-cause r ≡ number-answer value ⌝ }
-    {
-        if value < 64 {
-            Ok(DoorNo { value })
-        } else {
-            Err(NumberFault::TooHigh)
-        }
-    }
-
-    pub fn number(self) -> u8
-        ensures value { λ r. ⌜ r ≡ door-number self ⌝ }
         ensures bound { λ r. ⌜ r < 64 ⌝ }
     {
         self.value

@@ -5,7 +5,7 @@ ghost use Rattle.numbers.specs.Causes.{told-as};
 ghost use Rattle.numbers.specs.Faults.{size-cause};
 ghost use Rattle.numbers.specs.Numbers.{sizes-answer, sizes-of};
 use crate::fault::SizeFault;
-use crate::size::Sizes;
+use crate::number::Sizes;
 
 impl Sizes {
     pub fn new(keys: u8, doors: u8) -> Result<Sizes, SizeFault>

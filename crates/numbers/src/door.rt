@@ -1,0 +1,27 @@
+// Making a door number from a byte, and the byte of a door number.
+ghost use mathlib.Core.Path.{_≡_};
+ghost use Prim.Native.Nat.{_<_};
+ghost use Rattle.numbers.specs.Causes.{told-as};
+ghost use Rattle.numbers.specs.Faults.{number-cause};
+ghost use Rattle.numbers.specs.Numbers.{number-answer, door-number};
+use crate::fault::NumberFault;
+use crate::number::DoorNo;
+
+impl DoorNo {
+    pub fn new(value: u8) -> Result<DoorNo, NumberFault>
+        ensures { λ r. ⌜ told-as door-number number-cause r ≡ number-answer value ⌝ }
+    {
+        if value < 64 {
+            Ok(DoorNo { value })
+        } else {
+            Err(NumberFault::TooHigh)
+        }
+    }
+
+    pub fn number(self) -> u8
+        ensures value { λ r. ⌜ r ≡ door-number self ⌝ }
+        ensures bound { λ r. ⌜ r < 64 ⌝ }
+    {
+        self.value
+    }
+}
