@@ -45,14 +45,14 @@ rank-removal c [] = refl
 rank-removal c (y ∷ ys) = let e : one (change-before y (removal c)) ≡ one (before-by-pair y c) = ap one (removal-after y c) in let r = rank-removal c ys in omega arith
 
 -- a change of a pair that is not there
-untied : (c y : Change) → tied before-by-pair c y ≡ false → (tied change-before c y ≡ false) × (change-before y c ≡ before-by-pair y c)
+pub untied : (c y : Change) → tied before-by-pair c y ≡ false → (tied change-before c y ≡ false) × (change-before y c ≡ before-by-pair y c)
 untied c y h = (grind (arith, tells), grind (arith, tells))
 
 or-parts : (a c : Bool) → (a || c) ≡ false → (a ≡ false) × (c ≡ false)
 or-parts true c h = absurd (let q = cases-bool true in grind arith)
 or-parts false c h = (refl, h)
 
-new-lacks : (c : Change) (cs : List Change) → has before-by-pair c cs ≡ false → has change-before c cs ≡ false
+pub new-lacks : (c : Change) (cs : List Change) → has before-by-pair c cs ≡ false → has change-before c cs ≡ false
 new-lacks c [] h = refl
 new-lacks c (y ∷ ys) h =
     let p = or-parts (tied before-by-pair c y) (has before-by-pair c ys) h in

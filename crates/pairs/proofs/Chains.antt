@@ -1,9 +1,10 @@
 -- The orders are transitive, and how the order of changes follows that of their pairs.
-use mathlib.Core.Path.{_≡_, refl, sym, ap}
+use mathlib.Core.Path.{_≡_, ap, _∙_}
 use mathlib.Core.Bool.{Bool, true, false, not, _&&_, _||_}
 use Prim.Native.Nat.{ℕ, _<_}
 use lib.Dec.{ltb, eqb}
 use native.Mathlib.Omega.{arith}
+use Rattle.std.proofs.shelf.Tests.{cases-bool}
 use Rattle.std.proofs.shelf.Ways.{tells}
 use Rattle.pairs.specs.declared.pair.Pair.{Pair}
 use Rattle.pairs.specs.declared.change.Change.{Change}
@@ -37,3 +38,13 @@ by-pair-irreflexive a = grind (arith, tells)
 -- what is before by its pair is before
 pub by-pair-before : (a b : Change) → before-by-pair a b ≡ true → change-before a b ≡ true
 by-pair-before a b h = grind (arith, tells)
+
+abbrev change : ℕ → ℕ → Bool → Change
+change k d m = record { key = k; door = d; added = m }
+
+-- two changes of which neither is before the other are the same
+same-change : (a b : Change) → a .key ≡ b .key → a .door ≡ b .door → a .added ≡ b .added → a ≡ b
+same-change a b p q r = ap (λ (k : ℕ). change k (a .door) (a .added)) p ∙ (ap (λ (d : ℕ). change (b .key) d (a .added)) q ∙ ap (λ (m : Bool). change (b .key) (b .door) m) r)
+
+pub change-total : (a b : Change) → change-before a b ≡ false → change-before b a ≡ false → a ≡ b
+change-total a b p q = same-change a b (grind (arith, tells)) (grind (arith, tells)) (let s = cases-bool (a .added) in let t = cases-bool (b .added) in grind (arith, tells))

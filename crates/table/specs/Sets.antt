@@ -24,10 +24,18 @@ abbrev pub struck : {X : Type 0} → (X → X → Bool) → X → List X → Lis
 struck lt x [] = []
 struck lt x (y ∷ ys) = cond (tied lt x y) ys (y ∷ struck lt x ys)
 
+-- the records of a list entered one after the other, and struck one after the other
+abbrev pub all-entered : {X : Type 0} → (X → X → Bool) → List X → List X → List X
+all-entered lt [] ys = ys
+all-entered lt (x ∷ xs) ys = all-entered lt xs (entered lt x ys)
+
+abbrev pub all-struck : {X : Type 0} → (X → X → Bool) → List X → List X → List X
+all-struck lt [] ys = ys
+all-struck lt (x ∷ xs) ys = all-struck lt xs (struck lt x ys)
+
 -- the records of a list in ascending order, each once
 abbrev pub sorted : {X : Type 0} → (X → X → Bool) → List X → List X
-sorted lt [] = []
-sorted lt (x ∷ xs) = entered lt x (sorted lt xs)
+sorted lt xs = all-entered lt xs []
 
 abbrev pub one : Bool → ℕ
 one b = cond b 1 0

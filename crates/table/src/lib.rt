@@ -6,6 +6,7 @@ ghost use lib.Dec.{leb, ltb};
 ghost use lib.ListN.{length, take};
 ghost use Rattle.std.specs.Results.{Cases};
 ghost use Rattle.std.specs.declared.result.Result.the-variants.{Ok, Err};
+ghost use Rattle.table.specs.Laws.{Sorting};
 ghost use Rattle.table.specs.Rows.{Ascends, FoundAt, with-row, without-row};
 ghost use Rattle.table.specs.Sets.{placed, entered, struck};
 
@@ -82,4 +83,11 @@ pub fn take_out<T: Record>(rows: &mut [T], count: usize, at: usize) -> bool
         j += 1;
     }
     true
+}
+
+// The theorem that a list has one sorted list, which ascends and has the same records.
+pub fn sorting_stands<T: Record>() -> u8
+    ensures { λ _. ⌜ Sorting {X = T} before ⌝ }
+{
+    0
 }

@@ -1,0 +1,16 @@
+pub mod Heads
+pub mod Bodies
+pub mod Marked
+pub mod Merges
+pub mod Goods
+pub mod Fresh
+pub mod Puts
+pub mod Answered
+pub mod Takes
+pub mod Pastes
+pub mod Written
+pub mod Shapes
+pub mod Rounds
+pub mod Limits
+pub mod Backs
+pub mod Trips

@@ -1,0 +1,7 @@
+pub mod Faults
+pub mod Head
+pub mod Body
+pub mod Read
+pub mod Marks
+pub mod File
+pub mod Trip

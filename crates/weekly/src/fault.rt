@@ -1,0 +1,100 @@
+// Why a file is not read and why a batch is not written, and the cause of each in the table of causes.
+ghost use mathlib.Core.Path.{_≡_};
+ghost use Rattle.weekly.specs.declared.fault.ReadFault.the-variants.{File, Draft};
+ghost use Rattle.weekly.specs.Faults.{file-cause, read-cause, write-cause};
+use batch::fault::DraftFault;
+use batch::fault::DraftFaultDebug;
+use batch::fault::DraftFaultPartialEq;
+use numbers::cause::Cause;
+
+// What is wrong with a file. A place is the index of a byte of it: of an entry, of a note's byte, or of a pair.
+#[derive(Clone, Copy, PartialEq, Eq, Debug)]
+pub enum FileFault {
+    Opening,
+    Contents { place: usize },
+    Length { length: usize },
+    Body { place: usize },
+    Both { place: usize },
+}
+
+// Why a file is not read into a draft.
+#[derive(Clone, Copy, PartialEq, Eq, Debug)]
+pub enum ReadFault {
+    NotEmpty,
+    File(FileFault),
+    Draft(DraftFault),
+}
+
+// Why a batch and a note are not written.
+#[derive(Clone, Copy, PartialEq, Eq, Debug)]
+pub enum WriteFault {
+    Note { place: usize },
+    Short,
+}
+
+pub impl From<FileFault> for ReadFault as ReadFaultFromFile {
+    ghost converts = { λ fault r. r ≡ File fault };
+
+    fn from(fault: FileFault) -> ReadFault {
+        ReadFault::File(fault)
+    }
+}
+
+pub impl From<DraftFault> for ReadFault as ReadFaultFromDraft {
+    ghost converts = { λ fault r. r ≡ Draft fault };
+
+    fn from(fault: DraftFault) -> ReadFault {
+        ReadFault::Draft(fault)
+    }
+}
+
+impl FileFault {
+    // The opening is at place 0.
+    pub fn cause(&self) -> Cause
+        ensures { λ r. ⌜ r ≡ file-cause (now (self .entry)) ⌝ }
+    {
+        let (number, value) = match *self {
+            FileFault::Opening => (21, 0),
+            FileFault::Contents { place } => (22, place),
+            FileFault::Length { length } => (23, length),
+            FileFault::Body { place } => (24, place),
+            FileFault::Both { place } => (25, place),
+        };
+        Cause {
+            number,
+            value: Some(value),
+        }
+    }
+}
+
+impl ReadFault {
+    pub fn cause(&self) -> Cause
+        ensures { λ r. ⌜ r ≡ read-cause (now (self .entry)) ⌝ }
+    {
+        match self {
+            ReadFault::NotEmpty => Cause {
+                number: 26,
+                value: None,
+            },
+            ReadFault::File(fault) => fault.cause(),
+            ReadFault::Draft(fault) => fault.cause(),
+        }
+    }
+}
+
+impl WriteFault {
+    pub fn cause(&self) -> Cause
+        ensures { λ r. ⌜ r ≡ write-cause (now (self .entry)) ⌝ }
+    {
+        match *self {
+            WriteFault::Note { place } => Cause {
+                number: 27,
+                value: Some(place),
+            },
+            WriteFault::Short => Cause {
+                number: 28,
+                value: None,
+            },
+        }
+    }
+}

@@ -1,0 +1,15 @@
+// The weekly file: a batch of changes and a note, as bytes.
+// `read` puts the changes of a file into an empty draft, or answers the first cause in order, with its place. What it reads is the
+// only file for those changes and that note. `note` hands out the note as a part of the file. `write` writes the only file for a
+// batch and a note. `gives_back` is the theorem that each good batch and note come back from their file.
+mod body;
+pub mod fault;
+mod fill;
+mod head;
+mod judge;
+mod layout;
+mod pieces;
+pub mod read;
+pub mod reading;
+pub mod trip;
+pub mod write;
