@@ -14,3 +14,4 @@ pub mod Rounds
 pub mod Limits
 pub mod Backs
 pub mod Trips
+pub mod Receipts

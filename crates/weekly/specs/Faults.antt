@@ -8,6 +8,8 @@ use Rattle.weekly.specs.declared.fault.ReadFault.{ReadFault}
 use Rattle.weekly.specs.declared.fault.ReadFault.the-variants.{NotEmpty, File, Draft}
 use Rattle.weekly.specs.declared.fault.WriteFault.{WriteFault}
 use Rattle.weekly.specs.declared.fault.WriteFault.the-variants.{Note, Short}
+use Rattle.weekly.specs.declared.fault.ReceiptFault.{ReceiptFault}
+use Rattle.weekly.specs.declared.fault.ReceiptFault.the-variants.{Read, Write}
 
 -- 21: the opening, always at place 0; 22: the contents; 23: the file's length; 24: a body; 25: a pair in both bodies
 abbrev pub file-cause : FileFault → Cause
@@ -27,3 +29,8 @@ read-cause (Draft fault) = draft-cause fault
 abbrev pub write-cause : WriteFault → Cause
 write-cause (Note place) = along 27 place
 write-cause Short = bare 28
+
+-- the cause of the reading or of the writing
+abbrev pub receipt-cause : ReceiptFault → Cause
+receipt-cause (Read fault) = read-cause fault
+receipt-cause (Write fault) = write-cause fault

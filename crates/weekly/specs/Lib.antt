@@ -5,3 +5,4 @@ pub mod Read
 pub mod Marks
 pub mod File
 pub mod Trip
+pub mod Receipt

@@ -1,7 +1,8 @@
 // Why a file is not read and why a batch is not written, and the cause of each in the table of causes.
 ghost use mathlib.Core.Path.{_≡_};
 ghost use Rattle.weekly.specs.declared.fault.ReadFault.the-variants.{File, Draft};
-ghost use Rattle.weekly.specs.Faults.{file-cause, read-cause, write-cause};
+ghost use Rattle.weekly.specs.declared.fault.ReceiptFault.the-variants.{Read, Write};
+ghost use Rattle.weekly.specs.Faults.{file-cause, read-cause, write-cause, receipt-cause};
 use batch::fault::DraftFault;
 use batch::fault::DraftFaultDebug;
 use batch::fault::DraftFaultPartialEq;
@@ -32,6 +33,13 @@ pub enum WriteFault {
     Short,
 }
 
+// Why a file is not read and written back.
+#[derive(Clone, Copy, PartialEq, Eq, Debug)]
+pub enum ReceiptFault {
+    Read(ReadFault),
+    Write(WriteFault),
+}
+
 pub impl From<FileFault> for ReadFault as ReadFaultFromFile {
     ghost converts = { λ fault r. r ≡ File fault };
 
@@ -45,6 +53,22 @@ pub impl From<DraftFault> for ReadFault as ReadFaultFromDraft {
 
     fn from(fault: DraftFault) -> ReadFault {
         ReadFault::Draft(fault)
+    }
+}
+
+pub impl From<ReadFault> for ReceiptFault as ReceiptFaultFromRead {
+    ghost converts = { λ fault r. r ≡ Read fault };
+
+    fn from(fault: ReadFault) -> ReceiptFault {
+        ReceiptFault::Read(fault)
+    }
+}
+
+pub impl From<WriteFault> for ReceiptFault as ReceiptFaultFromWrite {
+    ghost converts = { λ fault r. r ≡ Write fault };
+
+    fn from(fault: WriteFault) -> ReceiptFault {
+        ReceiptFault::Write(fault)
     }
 }
 
@@ -95,6 +119,17 @@ impl WriteFault {
                 number: 28,
                 value: None,
             },
+        }
+    }
+}
+
+impl ReceiptFault {
+    pub fn cause(&self) -> Cause
+        ensures { λ r. ⌜ r ≡ receipt-cause (now (self .entry)) ⌝ }
+    {
+        match self {
+            ReceiptFault::Read(fault) => fault.cause(),
+            ReceiptFault::Write(fault) => fault.cause(),
         }
     }
 }

@@ -1,7 +1,7 @@
 // The weekly file: a batch of changes and a note, as bytes.
 // `read` puts the changes of a file into an empty draft, or answers the first cause in order, with its place. What it reads is the
 // only file for those changes and that note. `note` hands out the note as a part of the file. `write` writes the only file for a
-// batch and a note. `gives_back` is the theorem that each good batch and note come back from their file.
+// batch and a note. `receipt` does all of it in one call, and its output is the file's own bytes.
 mod body;
 pub mod fault;
 mod fill;
@@ -11,5 +11,6 @@ mod layout;
 mod pieces;
 pub mod read;
 pub mod reading;
+pub mod receipt;
 pub mod trip;
 pub mod write;

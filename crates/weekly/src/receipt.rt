@@ -1,0 +1,36 @@
+// A file read, closed and written back.
+ghost use mathlib.Core.Path.{_≡_};
+ghost use mathlib.Core.Bool.{cond};
+ghost use lib.ListN.{length};
+ghost use Rattle.std.specs.Results.{isOk};
+ghost use Rattle.numbers.specs.Causes.{told};
+ghost use Rattle.weekly.specs.Faults.{receipt-cause};
+ghost use Rattle.weekly.specs.File.{over};
+ghost use Rattle.weekly.specs.Receipt.{receipt-answer};
+use crate::fault::ReceiptFault;
+use crate::fault::ReceiptFaultFromRead;
+use crate::fault::ReceiptFaultFromWrite;
+use crate::read::note;
+use crate::read::read;
+use crate::reading::Reading;
+use crate::write::write;
+use batch::lent::Draft;
+use pairs::change::Change;
+
+// Reads a file, closes the draft, and writes the batch and the file's note over the start of the output: what stands there
+// then is the file, byte for byte. The draft lies in memory of the call's own, with room for every file.
+pub fn receipt(file: &[u8], out: &mut [u8]) -> Result<Reading, ReceiptFault>
+    ensures answer { λ r. ⌜ told receipt-cause r ≡ receipt-answer (now (file .entry)) (length (now (out .entry))) ⌝ }
+    ensures after { λ r. ⌜ now (out .exit) ≡ cond (isOk r) (over (now (file .entry)) (now (out .entry))) (now (out .entry)) ⌝ }
+{
+    let mut memory = [Change {
+        key: 0,
+        door: 0,
+        added: false,
+    }; 64];
+    let mut draft = Draft::new(&mut memory);
+    let reading = read(file, &mut draft)?;
+    let batch = draft.close();
+    write(&batch, note(file), out)?;
+    Ok(reading)
+}
