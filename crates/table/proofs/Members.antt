@@ -5,8 +5,8 @@ use mathlib.Core.List.{List, [], _∷_}
 use mathlib.Core.Logic.{_⊎_, inl, inr, ⊎-elim}
 use Prim.Native.Nat.{ℕ, zero, suc, _+_, _<_, _≤_}
 use native.Mathlib.Omega.{arith}
-use lib.ListN.{length, take}
-use Rattle.std.proofs.shelf.Tests.{cases-bool, true≢false}
+use lib.ListN.{length, getD, take}
+use Rattle.std.proofs.shelf.Tests.{cases-bool, true≢false, or-cases}
 use Rattle.table.specs.Rows.{Ascends}
 use Rattle.table.specs.Sets.{tied, has}
 use Rattle.table.proofs.Ups.{Below, Up, tied-same, tied-refl, below-lacks, ascends-up}
@@ -21,6 +21,14 @@ module _ {X : Type 0} (lt : X → X → Bool)
     (total : (x y : X) → lt x y ≡ false → lt y x ≡ false → x ≡ y) where
   pub up-of : (xs : List X) → Ascends lt xs (length xs) → Up lt xs
   up-of xs a = subst (λ (z : List X). Up lt z) (take-self xs) (ascends-up lt chain xs (length xs) (omega arith) a)
+
+  -- what a list has stands at some place
+  pub has-place : (x d : X) (xs : List X) → has lt x xs ≡ true → (i : ℕ) × (i < length xs) × (getD xs i d ≡ x)
+  has-place x d [] h = absurd (true≢false (sym h))
+  has-place x d (y ∷ ys) h = ⊎-elim
+      (λ (t : tied lt x y ≡ true). (0, omega arith, sym (tied-same lt irr chain total x y t)))
+      (λ (m : has lt x ys ≡ true). let r = has-place x d ys m in (suc (r .0), (let l = r .1 in omega arith), r .2))
+      (or-cases (tied lt x y) (has lt x ys) h)
 
   weak : (x y : X) (zs : List X) → lt x y ≡ true → Below lt y zs → Below lt x zs
   weak x y [] h b = tt
