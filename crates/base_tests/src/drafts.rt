@@ -1,7 +1,7 @@
 use batch::lent::Draft;
-use numbers::cause::Cause;
-use numbers::cause::CauseDebug;
-use numbers::cause::CausePartialEq;
+use faults::cause::Cause;
+use faults::cause::CauseDebug;
+use faults::cause::CausePartialEq;
 use pairs::change::Change;
 use pairs::change::ChangeDebug;
 use pairs::change::ChangePartialEq;

@@ -23,8 +23,8 @@ use Rattle.table.proofs.Ups.{ascends-up}
 use Rattle.table.proofs.Shifts.{row-ascends}
 use Rattle.table.proofs.SetLaws.{goes-entered}
 use Rattle.table.proofs.Places.{tied-place, tied-has, placed-goes}
-use Rattle.numbers.specs.declared.cause.Cause.{Cause}
-use Rattle.numbers.specs.Causes.{bare, along}
+use Rattle.faults.specs.declared.cause.Cause.{Cause}
+use Rattle.faults.specs.Causes.{bare, along}
 use Rattle.batch.specs.Changes.{in-range, capacity-of, filled, put-answer}
 
 by-pair-level : (x y z : Change) → before-by-pair x y ≡ true → tied before-by-pair z y ≡ true → before-by-pair x z ≡ true

@@ -6,8 +6,8 @@ use lib.Dec.{ltb}
 use lib.ListN.{length, drop}
 use Rattle.std.specs.declared.result.Result.{Result}
 use Rattle.std.specs.declared.result.Result.the-variants.{Ok, Err}
-use Rattle.numbers.specs.declared.cause.Cause.{Cause}
-use Rattle.numbers.specs.Causes.{bare, along}
+use Rattle.faults.specs.declared.cause.Cause.{Cause}
+use Rattle.faults.specs.Causes.{bare, along}
 use Rattle.numbers.specs.Numbers.{is-number}
 use Rattle.pairs.specs.declared.change.Change.{Change}
 use Rattle.pairs.specs.Orders.{before-by-pair}

@@ -2,6 +2,5 @@
 // then can it be booked or written to a file.
 pub mod closed;
 pub mod draft;
-pub mod fault;
 pub mod lent;
 pub mod put;

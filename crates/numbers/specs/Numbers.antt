@@ -4,11 +4,11 @@ use Prim.Native.Nat.{ℕ}
 use lib.Dec.{leb, ltb}
 use Rattle.std.specs.declared.result.Result.{Result}
 use Rattle.std.specs.declared.result.Result.the-variants.{Ok, Err}
-use Rattle.numbers.specs.declared.cause.Cause.{Cause}
+use Rattle.faults.specs.declared.cause.Cause.{Cause}
 use Rattle.numbers.specs.declared.number.KeyNo.{KeyNo}
 use Rattle.numbers.specs.declared.number.DoorNo.{DoorNo}
 use Rattle.numbers.specs.declared.number.Sizes.{Sizes}
-use Rattle.numbers.specs.Causes.{bare}
+use Rattle.faults.specs.Causes.{bare}
 
 abbrev pub key-number : KeyNo → ℕ
 key-number k = k .value

@@ -1,11 +1,11 @@
 // Making a door number from a byte, and the byte of a door number.
 ghost use mathlib.Core.Path.{_≡_};
 ghost use Prim.Native.Nat.{_<_};
-ghost use Rattle.numbers.specs.Causes.{told-as};
-ghost use Rattle.numbers.specs.Faults.{number-cause};
+ghost use Rattle.faults.specs.Causes.{told-as};
+ghost use Rattle.faults.specs.Faults.{number-cause};
 ghost use Rattle.numbers.specs.Numbers.{number-answer, door-number};
-use crate::fault::NumberFault;
 use crate::number::DoorNo;
+use faults::number::NumberFault;
 
 impl DoorNo {
     pub fn new(value: u8) -> Result<DoorNo, NumberFault>

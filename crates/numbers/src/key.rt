@@ -1,11 +1,11 @@
 // Making a key number from a byte, and the byte of a key number.
 ghost use mathlib.Core.Path.{_≡_};
 ghost use Prim.Native.Nat.{_<_};
-ghost use Rattle.numbers.specs.Causes.{told-as};
-ghost use Rattle.numbers.specs.Faults.{number-cause};
+ghost use Rattle.faults.specs.Causes.{told-as};
+ghost use Rattle.faults.specs.Faults.{number-cause};
 ghost use Rattle.numbers.specs.Numbers.{number-answer, key-number};
-use crate::fault::NumberFault;
 use crate::number::KeyNo;
+use faults::number::NumberFault;
 
 impl KeyNo {
     pub fn new(value: u8) -> Result<KeyNo, NumberFault>

@@ -1,11 +1,11 @@
 // Making sizes from two bytes, and the two bytes of sizes.
 ghost use mathlib.Core.Path.{_≡_};
 ghost use Prim.Native.Nat.{_≤_};
-ghost use Rattle.numbers.specs.Causes.{told-as};
-ghost use Rattle.numbers.specs.Faults.{size-cause};
+ghost use Rattle.faults.specs.Causes.{told-as};
+ghost use Rattle.faults.specs.Faults.{size-cause};
 ghost use Rattle.numbers.specs.Numbers.{sizes-answer, sizes-of};
-use crate::fault::SizeFault;
 use crate::number::Sizes;
+use faults::number::SizeFault;
 
 impl Sizes {
     pub fn new(keys: u8, doors: u8) -> Result<Sizes, SizeFault>

@@ -2,14 +2,14 @@
 // Each step is printed on a line. A file that is refused prints one line, and nothing is written for it.
 use batch::lent::Closed;
 use batch::lent::Draft;
-use numbers::cause::Cause;
+use faults::cause::Cause;
+use faults::weekly::ReadFault;
+use faults::weekly::ReceiptFault;
 use pairs::change::Change;
 use std::env;
 use std::error::AnyError;
 use std::fs;
 use std::str::from_utf8;
-use weekly::fault::ReadFault;
-use weekly::fault::ReceiptFault;
 use weekly::read::note;
 use weekly::read::read;
 use weekly::reading::Reading;

@@ -10,8 +10,8 @@ use Rattle.std.proofs.shelf.Lists.{places}
 use Rattle.std.proofs.shelf.Tests.{cond-true, cond-false, eq-eqb, ne-eqb, lt-ltb, le-ltb}
 use Rattle.std.specs.declared.result.Result.{Result}
 use Rattle.std.specs.declared.result.Result.the-variants.{Ok, Err}
-use Rattle.numbers.specs.declared.cause.Cause.{Cause}
-use Rattle.numbers.specs.Causes.{bare, along}
+use Rattle.faults.specs.declared.cause.Cause.{Cause}
+use Rattle.faults.specs.Causes.{bare, along}
 use Rattle.weekly.specs.declared.layout.Layout.{Layout}
 use Rattle.weekly.specs.declared.reading.Reading.{Reading}
 use Rattle.weekly.specs.Read.{with-room, judged, change-count, note-place, read-answer}

@@ -20,7 +20,7 @@ use Rattle.pairs.specs.declared.change.Change.{Change}
 use Rattle.pairs.specs.Orders.{before-by-pair}
 use Rattle.table.proofs.Ups.{Below, Up}
 use Rattle.batch.specs.Changes.{in-range}
-use Rattle.numbers.specs.declared.cause.Cause.{Cause}
+use Rattle.faults.specs.declared.cause.Cause.{Cause}
 use Rattle.weekly.proofs.Merges.{up-by-pair}
 use Rattle.weekly.specs.declared.layout.Layout.{Layout}
 use Rattle.weekly.specs.Body.{and-then, pair-number, pair-ok, pairs-fault, note-byte, bad-byte, byte-fault, text-fault, apart-fault, both-fault, bodies-fault, added-bytes, note-bytes, removed-bytes}

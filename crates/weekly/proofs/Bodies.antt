@@ -9,7 +9,7 @@ use lib.ListN.{length, getD, take, drop}
 use Rattle.std.proofs.shelf.Lists.{take-rest}
 use Rattle.std.specs.declared.option.Option.the-variants.{Some, None}
 use Rattle.std.specs.declared.result.Result.the-variants.{Ok, Err}
-use Rattle.numbers.specs.Causes.{along}
+use Rattle.faults.specs.Causes.{along}
 use Rattle.weekly.specs.Body.{and-then, pair-number, pair-ok, pairs-fault, note-byte, bad-byte, apart-fault, both-fault}
 
 -- too short for a pair

@@ -12,8 +12,8 @@ use Rattle.std.proofs.shelf.Tests.{cases-bool, cond-true, cond-false, cond-both
 use Rattle.std.proofs.shelf.Ways.{tells}
 use Rattle.std.specs.declared.result.Result.{Result}
 use Rattle.std.specs.declared.result.Result.the-variants.{Ok, Err}
-use Rattle.numbers.specs.declared.cause.Cause.{Cause}
-use Rattle.numbers.specs.Causes.{bare, along}
+use Rattle.faults.specs.declared.cause.Cause.{Cause}
+use Rattle.faults.specs.Causes.{bare, along}
 use Rattle.pairs.specs.declared.change.Change.{Change}
 use Rattle.pairs.specs.Orders.{change-before, before-by-pair}
 use Rattle.pairs.proofs.Chains.{change-irreflexive, change-chain, change-total, by-pair-chain}

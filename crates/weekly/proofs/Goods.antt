@@ -15,7 +15,7 @@ use Rattle.std.proofs.shelf.Ways.{tells}
 use Rattle.std.specs.declared.result.Result.{Result}
 use Rattle.std.specs.declared.result.Result.the-variants.{Ok, Err}
 use Rattle.pairs.specs.declared.change.Change.{Change}
-use Rattle.numbers.specs.declared.cause.Cause.{Cause}
+use Rattle.faults.specs.declared.cause.Cause.{Cause}
 use Rattle.weekly.specs.declared.layout.Layout.{Layout}
 use Rattle.weekly.specs.Body.{and-then, pair-number, pair-ok, pairs-fault, text-fault, apart-fault, both-fault, bodies-fault, added-bytes, note-bytes, removed-bytes}
 use Rattle.weekly.specs.Head.{layout-of}

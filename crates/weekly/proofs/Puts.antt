@@ -11,8 +11,8 @@ use Rattle.std.proofs.shelf.Lists.{places, length-append, length-drop, drop-at,
 use Rattle.std.proofs.shelf.Tests.{cond-true, cond-both}
 use Rattle.std.specs.declared.result.Result.{Result}
 use Rattle.std.specs.declared.result.Result.the-variants.{Ok, Err}
-use Rattle.numbers.specs.declared.cause.Cause.{Cause}
-use Rattle.numbers.specs.Causes.{told}
+use Rattle.faults.specs.declared.cause.Cause.{Cause}
+use Rattle.faults.specs.Causes.{told}
 use Rattle.pairs.specs.declared.change.Change.{Change}
 use Rattle.pairs.specs.Orders.{change-before}
 use Rattle.table.specs.Sets.{entered, all-entered}

@@ -10,8 +10,8 @@ use lib.ListN.{length, drop}
 use Rattle.std.proofs.shelf.Tests.{cases-lt, cond-true, cond-false, lt-ltb, le-ltb}
 use Rattle.std.specs.declared.result.Result.{Result}
 use Rattle.std.specs.declared.result.Result.the-variants.{Ok, Err}
-use Rattle.numbers.specs.declared.cause.Cause.{Cause}
-use Rattle.numbers.specs.Causes.{bare}
+use Rattle.faults.specs.declared.cause.Cause.{Cause}
+use Rattle.faults.specs.Causes.{bare}
 use Rattle.pairs.specs.declared.change.Change.{Change}
 use Rattle.batch.specs.Changes.{capacity-of}
 use Rattle.weekly.specs.declared.reading.Reading.{Reading}

@@ -13,8 +13,8 @@ use Rattle.std.proofs.shelf.Lists.{places, same-lists, length-append, getD-drop
 use Rattle.std.proofs.shelf.Tests.{and-parts, ltb-false, eqb-true}
 use Rattle.std.specs.declared.result.Result.{Result}
 use Rattle.std.specs.declared.result.Result.the-variants.{Ok, Err}
-use Rattle.numbers.specs.declared.cause.Cause.{Cause}
-use Rattle.numbers.specs.Causes.{along}
+use Rattle.faults.specs.declared.cause.Cause.{Cause}
+use Rattle.faults.specs.Causes.{along}
 use Rattle.weekly.specs.declared.layout.Layout.{Layout}
 use Rattle.weekly.specs.Head.{opening-bytes, opened, entries, bodies-start, bodies-end, ended, layout-of}
 use Rattle.weekly.specs.Body.{added-bytes, note-bytes, removed-bytes}

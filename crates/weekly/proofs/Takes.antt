@@ -7,7 +7,7 @@ use native.Mathlib.Omega.{arith}
 use lib.ListN.{length}
 use Rattle.std.specs.declared.result.Result.{Result}
 use Rattle.std.specs.declared.result.Result.the-variants.{Ok, Err}
-use Rattle.numbers.specs.declared.cause.Cause.{Cause}
+use Rattle.faults.specs.declared.cause.Cause.{Cause}
 use Rattle.pairs.specs.declared.change.Change.{Change}
 use Rattle.weekly.specs.declared.layout.Layout.{Layout}
 use Rattle.weekly.specs.Head.{Sized}

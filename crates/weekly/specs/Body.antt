@@ -8,8 +8,8 @@ use Rattle.std.specs.declared.option.Option.{Option}
 use Rattle.std.specs.declared.option.Option.the-variants.{Some, None}
 use Rattle.std.specs.declared.result.Result.{Result}
 use Rattle.std.specs.declared.result.Result.the-variants.{Ok, Err}
-use Rattle.numbers.specs.declared.cause.Cause.{Cause}
-use Rattle.numbers.specs.Causes.{along}
+use Rattle.faults.specs.declared.cause.Cause.{Cause}
+use Rattle.faults.specs.Causes.{along}
 use Rattle.weekly.specs.declared.layout.Layout.{Layout}
 
 -- one judgement and then another: the first cause decides

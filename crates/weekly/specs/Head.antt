@@ -8,8 +8,8 @@ use lib.ListN.{length, getD, take, drop}
 use Rattle.std.specs.shelf.Text.{sameBytes}
 use Rattle.std.specs.declared.result.Result.{Result}
 use Rattle.std.specs.declared.result.Result.the-variants.{Ok, Err}
-use Rattle.numbers.specs.declared.cause.Cause.{Cause}
-use Rattle.numbers.specs.Causes.{along}
+use Rattle.faults.specs.declared.cause.Cause.{Cause}
+use Rattle.faults.specs.Causes.{along}
 use Rattle.weekly.specs.declared.layout.Layout.{Layout}
 
 -- the four bytes 57 4B 4C 31

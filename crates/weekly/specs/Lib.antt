@@ -1,4 +1,3 @@
-pub mod Faults
 pub mod Head
 pub mod Body
 pub mod Read

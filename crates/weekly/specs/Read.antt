@@ -5,8 +5,8 @@ use Prim.Native.Nat.{ℕ, _+_, _/_}
 use lib.Dec.{ltb, eqb}
 use Rattle.std.specs.declared.result.Result.{Result}
 use Rattle.std.specs.declared.result.Result.the-variants.{Ok, Err}
-use Rattle.numbers.specs.declared.cause.Cause.{Cause}
-use Rattle.numbers.specs.Causes.{bare, along}
+use Rattle.faults.specs.declared.cause.Cause.{Cause}
+use Rattle.faults.specs.Causes.{bare, along}
 use Rattle.weekly.specs.declared.layout.Layout.{Layout}
 use Rattle.weekly.specs.declared.reading.Reading.{Reading}
 use Rattle.pairs.specs.declared.change.Change.{Change}

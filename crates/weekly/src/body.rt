@@ -2,10 +2,10 @@
 ghost use mathlib.Core.Path.{_≡_};
 ghost use Prim.Native.Nat.{_+_, _^_, _<_};
 ghost use lib.ListN.{length};
-ghost use Rattle.numbers.specs.Causes.{told};
-ghost use Rattle.weekly.specs.Faults.{file-cause};
+ghost use Rattle.faults.specs.Causes.{told};
+ghost use Rattle.faults.specs.Faults.{file-cause};
 ghost use Rattle.weekly.specs.Body.{pair-ok, pairs-fault, bad-byte, text-fault, apart-fault, both-fault, bodies-fault};
-use crate::fault::FileFault;
+use faults::weekly::FileFault;
 
 // A pair has a key and a door below 64, and is not below `low`, by key and then by door.
 fn pair_ok(low: usize, key: u8, door: u8) -> bool

@@ -3,11 +3,11 @@ ghost use mathlib.Core.Path.{_≡_};
 ghost use Prim.Native.Nat.{_+_, _*_, _<_, _≤_};
 ghost use lib.ListN.{length};
 ghost use Rattle.std.specs.Vec.{made};
-ghost use Rattle.numbers.specs.Causes.{told};
-ghost use Rattle.weekly.specs.Faults.{file-cause};
+ghost use Rattle.faults.specs.Causes.{told};
+ghost use Rattle.faults.specs.Faults.{file-cause};
 ghost use Rattle.weekly.specs.Head.{opened, two-bytes, entry-ok, with-body, entries, layout-of, bodies-end, Short, Sized};
-use crate::fault::FileFault;
 use crate::layout::Layout;
+use faults::weekly::FileFault;
 
 // The opening is four fixed bytes, and the number of entries follows it.
 fn opens(file: &[u8]) -> bool

@@ -2,15 +2,15 @@
 ghost use mathlib.Core.Path.{_≡_};
 ghost use lib.ListN.{length};
 ghost use Rattle.std.specs.Vec.{made};
-ghost use Rattle.numbers.specs.Causes.{told};
-ghost use Rattle.weekly.specs.Faults.{file-cause};
+ghost use Rattle.faults.specs.Causes.{told};
+ghost use Rattle.faults.specs.Faults.{file-cause};
 ghost use Rattle.weekly.specs.Head.{Sized};
 ghost use Rattle.weekly.specs.Body.{added-bytes, note-bytes, removed-bytes};
 ghost use Rattle.weekly.specs.Read.{judged};
 use crate::body::bodies;
-use crate::fault::FileFault;
 use crate::head::read_layout;
 use crate::layout::Layout;
+use faults::weekly::FileFault;
 
 // The bodies lie one after the other: additions, note, removals.
 pub(crate) fn added_part(file: &[u8], layout: Layout) -> &[u8]

@@ -3,7 +3,6 @@
 // only file for those changes and that note. `note` hands out the note as a part of the file. `write` writes the only file for a
 // batch and a note. `receipt` does all of it in one call, and its output is the file's own bytes.
 mod body;
-pub mod fault;
 mod fill;
 mod head;
 mod judge;

@@ -5,15 +5,13 @@ ghost use mathlib.Core.List.{[], _++_};
 ghost use lib.ListN.{length};
 ghost use denote.Ref.{name};
 ghost use Rattle.std.specs.Results.{isOk};
-ghost use Rattle.numbers.specs.Causes.{told};
+ghost use Rattle.faults.specs.Causes.{told};
 ghost use Rattle.batch.specs.Changes.{capacity-of, filled};
 ghost use Rattle.batch.specs.Drafts.{changes, memory-of};
-ghost use Rattle.weekly.specs.Faults.{read-cause};
+ghost use Rattle.faults.specs.Faults.{read-cause};
 ghost use Rattle.weekly.specs.Head.{Short};
 ghost use Rattle.weekly.specs.Marks.{marked, merged, Taken-all};
 ghost use Rattle.weekly.specs.Read.{note-place, read-answer, file-changes, file-note};
-use crate::fault::ReadFault;
-use crate::fault::ReadFaultFromFile;
 use crate::fill::put_all;
 use crate::judge::added_part;
 use crate::judge::judge;
@@ -21,8 +19,10 @@ use crate::judge::note_part;
 use crate::judge::removed_part;
 use crate::layout::Layout;
 use crate::reading::Reading;
-use batch::fault::DraftFault;
 use batch::lent::Draft;
+use faults::draft::DraftFault;
+use faults::weekly::ReadFault;
+use faults::weekly::ReadFaultFromFile;
 
 // Puts the changes of both bodies into an empty draft that takes them all.
 fn take_in(draft: &mut Draft, added: &[u8], removed: &[u8])

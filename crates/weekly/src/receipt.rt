@@ -3,18 +3,18 @@ ghost use mathlib.Core.Path.{_≡_};
 ghost use mathlib.Core.Bool.{cond};
 ghost use lib.ListN.{length};
 ghost use Rattle.std.specs.Results.{isOk};
-ghost use Rattle.numbers.specs.Causes.{told};
-ghost use Rattle.weekly.specs.Faults.{receipt-cause};
+ghost use Rattle.faults.specs.Causes.{told};
+ghost use Rattle.faults.specs.Faults.{receipt-cause};
 ghost use Rattle.weekly.specs.File.{over};
 ghost use Rattle.weekly.specs.Receipt.{receipt-answer};
-use crate::fault::ReceiptFault;
-use crate::fault::ReceiptFaultFromRead;
-use crate::fault::ReceiptFaultFromWrite;
 use crate::read::note;
 use crate::read::read;
 use crate::reading::Reading;
 use crate::write::write;
 use batch::lent::Draft;
+use faults::weekly::ReceiptFault;
+use faults::weekly::ReceiptFaultFromRead;
+use faults::weekly::ReceiptFaultFromWrite;
 use pairs::change::Change;
 
 // Reads a file, closes the draft, and writes the batch and the file's note over the start of the output: what stands there

@@ -6,19 +6,19 @@ ghost use Prim.Native.Nat.{_+_, _<_, _≤_};
 ghost use lib.ListN.{length};
 ghost use Rattle.std.specs.Results.{isOk};
 ghost use Rattle.batch.specs.Drafts.{closed-changes};
-ghost use Rattle.numbers.specs.Causes.{told};
-ghost use Rattle.weekly.specs.Faults.{write-cause};
+ghost use Rattle.faults.specs.Causes.{told};
+ghost use Rattle.faults.specs.Faults.{write-cause};
 ghost use Rattle.weekly.specs.Head.{bodies-end};
 ghost use Rattle.weekly.specs.Marks.{bytes-of};
 ghost use Rattle.weekly.specs.File.{present, plan-of, added-entry, note-entry, removed-entry, head-of, file-of, write-answer, over, Wrote};
 use crate::body::bad_byte;
-use crate::fault::WriteFault;
 use crate::layout::Layout;
 use crate::pieces::put_bytes;
 use crate::pieces::put_entry;
 use crate::pieces::put_marked;
 use crate::pieces::size;
 use batch::lent::Closed;
+use faults::weekly::WriteFault;
 use pairs::change::Change;
 
 // A body that is there has one entry, and an empty one has none.

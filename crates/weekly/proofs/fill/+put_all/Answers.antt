@@ -7,7 +7,7 @@ use Rattle.pairs.specs.declared.change.Change.{Change}
 use Rattle.pairs.specs.Orders.{change-before}
 use Rattle.table.specs.Sets.{all-entered}
 use Rattle.batch.specs.Drafts.{changes, memory-of}
-use Rattle.batch.specs.Faults.{draft-cause}
+use Rattle.faults.specs.Faults.{draft-cause}
 use Rattle.batch.proofs.Puts.{filled-same}
 use Rattle.weekly.proofs.Marked.{marked-none}
 use Rattle.weekly.proofs.Puts.{put-fits, put-all-changes, put-all-memory}

@@ -1,12 +1,12 @@
 // Why a change is not put into a draft.
 ghost use mathlib.Core.Path.{_≡_};
-ghost use Rattle.batch.specs.Faults.{draft-cause};
-ghost use Rattle.batch.specs.declared.fault.DraftFault.the-variants.{Number};
-use numbers::cause::Cause;
-use numbers::fault::NumberFault;
-use numbers::fault::NumberFaultDebug;
-use numbers::fault::NumberFaultEq;
-use numbers::fault::NumberFaultPartialEq;
+ghost use Rattle.faults.specs.Faults.{draft-cause};
+ghost use Rattle.faults.specs.declared.draft.DraftFault.the-variants.{Number};
+use crate::cause::Cause;
+use crate::number::NumberFault;
+use crate::number::NumberFaultDebug;
+use crate::number::NumberFaultEq;
+use crate::number::NumberFaultPartialEq;
 
 #[derive(Clone, Copy, PartialEq, Eq, Debug)]
 pub enum DraftFault {

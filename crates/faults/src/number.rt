@@ -1,6 +1,6 @@
 // A key or door number above 63, and a size outside 1 to 64.
 ghost use mathlib.Core.Path.{_≡_};
-ghost use Rattle.numbers.specs.Faults.{number-cause, size-cause};
+ghost use Rattle.faults.specs.Faults.{number-cause, size-cause};
 use crate::cause::Cause;
 
 #[derive(Clone, Copy, PartialEq, Eq, Debug)]

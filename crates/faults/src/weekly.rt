@@ -1,12 +1,12 @@
 // Why a file is not read and why a batch is not written, and the cause of each in the table of causes.
 ghost use mathlib.Core.Path.{_≡_};
-ghost use Rattle.weekly.specs.declared.fault.ReadFault.the-variants.{File, Draft};
-ghost use Rattle.weekly.specs.declared.fault.ReceiptFault.the-variants.{Read, Write};
-ghost use Rattle.weekly.specs.Faults.{file-cause, read-cause, write-cause, receipt-cause};
-use batch::fault::DraftFault;
-use batch::fault::DraftFaultDebug;
-use batch::fault::DraftFaultPartialEq;
-use numbers::cause::Cause;
+ghost use Rattle.faults.specs.declared.weekly.ReadFault.the-variants.{File, Draft};
+ghost use Rattle.faults.specs.declared.weekly.ReceiptFault.the-variants.{Read, Write};
+ghost use Rattle.faults.specs.Faults.{file-cause, read-cause, write-cause, receipt-cause};
+use crate::cause::Cause;
+use crate::draft::DraftFault;
+use crate::draft::DraftFaultDebug;
+use crate::draft::DraftFaultPartialEq;
 
 // What is wrong with a file. A place is the index of a byte of it: of an entry, of a note's byte, or of a pair.
 #[derive(Clone, Copy, PartialEq, Eq, Debug)]
