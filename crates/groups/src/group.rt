@@ -2,7 +2,7 @@
 ghost use Rattle.groups.specs.Orders.{group-before};
 use table::Record;
 
-#[derive(Clone, Copy, PartialEq, Eq, Debug)]
+#[derive(Clone, Copy, PartialEq, Eq, PartialOrd, Ord, Debug)]
 pub struct Group {
     pub keys: u64,
     pub doors: u64,

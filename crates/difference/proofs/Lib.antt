@@ -1,0 +1,10 @@
+pub mod Chosen
+pub mod Newness
+pub mod Holds
+pub mod Sieves
+pub mod Sorting
+pub mod Counting
+pub mod Marks
+pub mod Families
+pub mod Puts
+pub mod Ends

@@ -1,0 +1,13 @@
+pub mod Closings
+pub mod Columns
+pub mod Fills
+pub mod Kept
+pub mod Loops
+pub mod Parts
+pub mod Peels
+pub mod Scopes
+pub mod Shared
+pub mod Starts
+pub mod Steps
+pub mod Wholes
+pub mod Written

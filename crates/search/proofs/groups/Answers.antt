@@ -1,0 +1,15 @@
+use mathlib.Core.Path.{_≡_, subst}
+use mathlib.Core.List.{List}
+use Prim.Native.Nat.{min}
+use Rattle.groups.specs.declared.group.Group.{Group}
+use Rattle.search.specs.Fills.{fill-answer, filled-from}
+use Rattle.search.proofs.Wholes.{all-scope}
+use Rattle.search.proofs.groups.Needs as need
+
+pub returns : need.returns
+returns c =
+    let e = all-scope (c .args .rows .now) (min (c .args .doors) 64) in
+    record {
+      answer = subst (λ (z : List Group). c .list .result ≡ fill-answer z (c .args .table .now) (c .args .count)) e (c .list .ensures .answer);
+      table = subst (λ (z : List Group). c .list .last .table ≡ filled-from z (c .args .table .now) (c .args .count)) e (c .list .ensures .table);
+    }

@@ -1,0 +1,4 @@
+pub mod Fills
+pub mod Nodes
+pub mod Parts
+pub mod Roots
