@@ -3,6 +3,7 @@ ghost use Rattle.groups.specs.Orders.{group-before};
 use table::Record;
 
 #[derive(Clone, Copy, PartialEq, Eq, PartialOrd, Ord, Debug)]
+#[repr(C)]
 pub struct Group {
     pub keys: u64,
     pub doors: u64,

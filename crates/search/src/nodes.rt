@@ -31,7 +31,7 @@ pub struct Node {
 }
 
 // What `start` and the rows of the members of `set` share.
-pub fn common(rows: &[u64; 64], start: u64, set: u64) -> u64
+pub(crate) fn common(rows: &[u64; 64], start: u64, set: u64) -> u64
     ensures { λ r. ⌜ Shares (now (rows .entry)) start (Has set) r ⌝ }
 {
     let mut shared = start;
@@ -44,7 +44,7 @@ pub fn common(rows: &[u64; 64], start: u64, set: u64) -> u64
 }
 
 // The keys that open all of `doors`, and the keys that open some.
-pub fn close(columns: &[u64; 64], doors: u64) -> (u64, u64)
+pub(crate) fn close(columns: &[u64; 64], doors: u64) -> (u64, u64)
     ensures { λ r. ⌜ Closes (now (columns .entry)) doors (r .0) (r .1) ⌝ }
 {
     let mut all = u64::MAX;
@@ -60,7 +60,7 @@ pub fn close(columns: &[u64; 64], doors: u64) -> (u64, u64)
 }
 
 // The first state of a search for the groups that have all keys of `base` and none of `out`, or None where there is no such group.
-pub fn root(plan: Plan, base: u64, out: u64) -> Option<Node>
+pub(crate) fn root(plan: Plan, base: u64, out: u64) -> Option<Node>
     requires few { ⌜ plan .doors ≤ 64 ⌝ }
     requires long { ⌜ length (now (plan .rows)) ≡ 64 ⌝ }
     requires wide { ⌜ length (now (plan .watch)) ≡ 64 ⌝ }
@@ -89,7 +89,7 @@ pub fn root(plan: Plan, base: u64, out: u64) -> Option<Node>
 }
 
 // Writes the groups that have all keys of the node and none of its `out`, and whose keys' rows to watch share a bit, into the table from `count` on, ascending.
-pub fn visit(plan: Plan, node: Node, table: &mut [Group], count: usize) -> Option<usize>
+pub(crate) fn visit(plan: Plan, node: Node, table: &mut [Group], count: usize) -> Option<usize>
     requires room { ⌜ count ≤ length (now table) ⌝ }
     requires node { ⌜ IsNode (now (plan .rows)) (now (plan .columns)) (now (plan .watch)) (plan .doors) (node .keys) (node .out) (node .doors) (node .marks) (node .left) ⌝ }
     ensures answer { λ r. ⌜ r ≡ fill-answer (scope-list (now (plan .entry .rows)) (plan .entry .doors) (now (plan .entry .watch)) (node .keys) (node .out)) (now (table .entry)) count ⌝ }

@@ -1,6 +1,6 @@
 use mathlib.Core.Path.{sym, _∙_}
 use mathlib.Core.List.{[]}
-use Prim.Native.Nat.{ℕ, _-_, _≤_}
+use Prim.Native.Nat.{ℕ, _-_, _<_, _≤_}
 use native.Mathlib.Omega.{arith}
 use lib.Bits.{bitAnd, bitOr}
 use lib.Count.{trailingZeros}
@@ -19,16 +19,17 @@ begun : (t : ℕ) (c : Joined-node-ne0 t)
 begun t c =
     elim (c .if-node-ne0 .came) [
       | then-node-ne0·else-end-table w ↦
-          written-list (sym (here-list (c .pre .node) (w .if-node-ne0 .taken))) (written-at (w .table-is) (w .end-is) (written-one _ _ _ (w .if-end-table .left)))
+          written-list (sym (here-list (c .pre .node) (w .if-node-ne0 .taken))) (written-at (w .table-is) (w .end-is) (written-one _ _ _ (let l : c .args .count < length (c .args .table .now) = omega (arith, w .if-end-table .left) in l)))
       | else-node-ne0 w ↦
           written-list (sym (empty-list (c .pre .node) (w .if-node-ne0 .left))) (written-at (w .table-is) (w .end-is) (written-none _ _ (c .pre .room)))
     ]
 
 pub returns-then-end-table : need.returns-then-end-table
 returns-then-end-table t c =
+    let full : length (c .args .table .now) ≤ c .args .count = omega arith in
     record {
-      answer = full-answer (c .pre .node) (c .if-node-ne0 .taken) (c .args .table .now) (c .args .count) (c .if-end-table .taken);
-      table = full-table (c .pre .node) (c .if-node-ne0 .taken) (c .args .table .now) (c .args .count) (c .pre .room) (c .if-end-table .taken);
+      answer = full-answer (c .pre .node) (c .if-node-ne0 .taken) (c .args .table .now) (c .args .count) full;
+      table = full-table (c .pre .node) (c .if-node-ne0 .taken) (c .args .table .now) (c .args .count) (c .pre .room) full;
     }
 
 pub loop-rest-holds : need.loop-rest-holds
