@@ -74,7 +74,7 @@ fn time<T>(mut run: impl FnMut() -> T) -> (f64, T) {
         let t = Instant::now();
         let result = run();
         least = least.min(t.elapsed().as_secs_f64() * 1e6);
-        if start.elapsed().as_millis() > 200 {
+        if start.elapsed().as_millis() > 20 {
             return (least, result);
         }
     }
@@ -95,29 +95,42 @@ fn main() {
         println!("{name:20} {count:7} {proved:12.1} {same:9.1} {:7.2} {best:9.1} {:7.2}", proved / same, proved / best);
     }
     println!();
-    println!("changed pairs             new  lapsed    proved µs   anew µs   times faster");
+    println!("changed pairs, the mean of many changes    new  lapsed    proved µs   anew µs   times faster");
     for percent in [10, 25, 30, 50] {
         let before = random.plan(percent);
         for pairs in [1, 8, 64] {
-            let after = random.changed(&before, pairs);
-            let half = table.len() / 2;
-            let (proved, (new, lapsed)) = time(|| {
-                let new = proved_new(&before, &after, 64, &mut table[..half], half / 2);
-                let lapsed = proved_new(&after, &before, 64, &mut table[half..], half / 2);
-                (new, lapsed)
-            });
+            let changes = if pairs == 1 { 64 } else { 4 };
             let label = format!("64 x 64, {percent} %, {pairs}");
-            if percent == 50 {
-                // Listing such a plan takes minutes.
-                println!("{label:22} {new:7} {lapsed:7} {proved:12.1}         -");
-                continue;
+            let (mut news, mut lapses, mut proved, mut anew) = (0, 0, 0.0, 0.0);
+            for _ in 0..changes {
+                let after = random.changed(&before, pairs);
+                let half = table.len() / 2;
+                let (time_proved, (new, lapsed)) = time(|| {
+                    let new = proved_new(&before, &after, 64, &mut table[..half], half / 2);
+                    let lapsed = proved_new(&after, &before, 64, &mut table[half..], half / 2);
+                    (new, lapsed)
+                });
+                proved += time_proved;
+                news += new.min(half);
+                lapses += lapsed.min(half);
+                if percent < 50 {
+                    let (time_anew, (expected_new, expected_lapsed)) = time(|| {
+                        let (b, a) = (plain::same::groups(&before, 64), plain::same::groups(&after, 64));
+                        (plain::difference(&b, &a), plain::difference(&a, &b))
+                    });
+                    anew += time_anew;
+                    assert!(table[..new] == expected_new[..], "the new groups differ");
+                    assert!(table[half..half + lapsed] == expected_lapsed[..], "the lapsed groups differ");
+                }
             }
-            let (anew, (expected_new, expected_lapsed)) = time(|| {
-                let (b, a) = (plain::same::groups(&before, 64), plain::same::groups(&after, 64));
-                (plain::difference(&b, &a), plain::difference(&a, &b))
-            });
-            assert!(table[..new] == expected_new[..] && table[half..half + lapsed] == expected_lapsed[..], "the lists differ");
-            println!("{label:22} {new:7} {lapsed:7} {proved:12.1} {anew:9.1} {:14.1}", anew / proved);
+            let mean = |sum: f64| sum / changes as f64;
+            print!("{label:38} {:7} {:7} {:12.1}", news / changes, lapses / changes, mean(proved));
+            if percent < 50 {
+                println!(" {:9.1} {:14.1}", mean(anew), anew / proved);
+            } else {
+                // Listing such a plan takes too long.
+                println!("         -");
+            }
         }
     }
     let own: Vec<u64> = (0..64).map(|k| !(1u64 << k)).collect();

@@ -5,6 +5,8 @@ use Rattle.faults.specs.declared.number.NumberFault.{NumberFault}
 use Rattle.faults.specs.declared.number.NumberFault.the-variants.{TooHigh}
 use Rattle.faults.specs.declared.number.SizeFault.{SizeFault}
 use Rattle.faults.specs.declared.number.SizeFault.the-variants.{Outside}
+use Rattle.faults.specs.declared.plan.PlanFault.{PlanFault}
+use Rattle.faults.specs.declared.plan.PlanFault.the-variants.{Outside as OutsidePlan, Stands, NoSpare, Absent}
 use Rattle.faults.specs.declared.draft.DraftFault.{DraftFault}
 use Rattle.faults.specs.declared.draft.DraftFault.the-variants.{Number, Held, Full}
 use Rattle.faults.specs.declared.weekly.FileFault.{FileFault}
@@ -23,6 +25,13 @@ number-cause TooHigh = bare 1
 -- 2: a size outside 1 to 64
 abbrev pub size-cause : SizeFault → Cause
 size-cause Outside = bare 2
+
+-- 3: the pair is outside the plan's sizes; 4: it stands; 5: no spare place; 6: it does not stand
+abbrev pub plan-cause : PlanFault → Cause
+plan-cause OutsidePlan = bare 3
+plan-cause Stands = bare 4
+plan-cause NoSpare = bare 5
+plan-cause Absent = bare 6
 
 -- 1, or 10: the pair is in the draft under either mark, at this index; 11: no room at this capacity
 abbrev pub draft-cause : DraftFault → Cause

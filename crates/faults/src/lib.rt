@@ -3,4 +3,5 @@
 pub mod cause;
 pub mod draft;
 pub mod number;
+pub mod plan;
 pub mod weekly;

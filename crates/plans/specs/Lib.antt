@@ -1,0 +1,4 @@
+pub mod Meaning
+pub mod Pairs
+pub mod Tables
+pub mod Lents
