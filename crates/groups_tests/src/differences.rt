@@ -106,3 +106,25 @@ fn many() -> Result<(), Fail> {
     more[0] = u64::MAX;
     check_eq(new_groups(&full, &more, 64, &mut table, 0, 32), None)
 }
+
+// A group that lies inside a new one but was none before does not lapse: [3,2] lies in [7,2], and stays out.
+#[test]
+fn only_groups_lapse() -> Result<(), Fail> {
+    let mut table = [EMPTY; 8];
+    check_eq(
+        lapsed_groups(&[3, 3, 4], &[3, 3, 6], 3, &mut table, 0, 4),
+        Some(1),
+    )?;
+    check_eq(table[0], group(4, 4))
+}
+
+#[test]
+fn one_key_and_one_door() -> Result<(), Fail> {
+    let mut table = [EMPTY; 4];
+    check_eq(new_groups(&[0], &[1], 1, &mut table, 0, 2), Some(1))?;
+    check_eq(table[0], group(1, 1))?;
+    check_eq(lapsed_groups(&[0], &[1], 1, &mut table, 0, 2), Some(0))?;
+    check_eq(lapsed_groups(&[1], &[0], 1, &mut table, 0, 2), Some(1))?;
+    check_eq(table[0], group(1, 1))?;
+    check_eq(new_groups(&[1], &[0], 1, &mut table, 0, 2), Some(0))
+}
