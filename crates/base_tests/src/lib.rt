@@ -1,4 +1,6 @@
 // Tests of the lower layers: numbers and sizes, the ascending table, drafts and closed batches.
+#![tactic(auto)]
+
 #[cfg(test)]
 mod drafts;
 #[cfg(test)]

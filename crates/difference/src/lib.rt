@@ -2,6 +2,8 @@
 // A group of the later plan is new exactly where some key or some door touches it (`touched_groups_are_new`). The groups that one key touches
 // are those that have it and for whose keys the rows share a door among those that it gained or lost; one search finds them. Those that a door
 // touches are found in the same way on the turned plan.
+#![tactic(auto)]
+
 ghost use Rattle.std.specs.Prelude.{◌≡◌, ℕ, ◌+◌, ◌*◌, ◌<◌, ◌≤◌, min, ◌⊎◌, length, take, MatchBool};
 ghost use Rattle.masks.specs.Masks.{Has};
 ghost use Rattle.groups.specs.Lists.{new_groups_of, lapsed_groups_of};

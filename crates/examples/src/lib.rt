@@ -1,4 +1,6 @@
 // Worked examples of plans and of their groups, as one theorem.
+#![tactic(auto)]
+
 ghost use Rattle.examples.specs.Examples.{Examples};
 
 // Each plan has the groups that the example gives, and each batch brings and ends those that it gives.

@@ -1,4 +1,6 @@
 // Tests of the search for groups and of the difference of two plans.
+#![tactic(auto)]
+
 #[cfg(test)]
 mod differences;
 #[cfg(test)]

@@ -1,4 +1,6 @@
 // Sets of the numbers 0 to 63, each a 64-bit mask: number i is in the set where bit i, of weight 2^i, is 1.
+#![tactic(auto)]
+
 ghost use Rattle.std.specs.Prelude.{◌≡◌};
 ghost use Rattle.masks.specs.Laws.{LawsOfSets};
 ghost use Rattle.masks.specs.Masks.{has_bit, with_answer, parted, first_set, is_within};

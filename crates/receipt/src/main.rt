@@ -1,5 +1,7 @@
 // Reads weekly files and writes each back as its receipt: `receipt FILE RECEIPT`, and so on for further pairs of names.
 // Each step is printed on a line. A file that is refused prints one line, and nothing is written for it.
+#![tactic(auto)]
+
 use anyhow::anyhow;
 use batch::lent::{Closed, Draft};
 use faults::cause::Cause;

@@ -1,5 +1,7 @@
 // Lists the groups of a plan, all of them or those with some property of their keys, straight into a table, ascending.
 // A plan has a row for each key, the set of the doors that the key opens. Only the first 64 rows and the first 64 doors count.
+#![tactic(auto)]
+
 ghost use Rattle.std.specs.Prelude.{◌≡◌, min, take};
 ghost use Rattle.groups.specs.Lists.{groups_of};
 ghost use Rattle.search.specs.Fills.{fill_answer, filled_from};

@@ -1,4 +1,6 @@
 // Suites: a plan and a register that are kept in step. Founding, booking, questions, and the law over every list of these calls.
+#![tactic(auto)]
+
 pub mod ask;
 pub mod book;
 pub mod calls;

@@ -1,4 +1,6 @@
 // The ascending table: records of any kind that has a total order, kept ascending in the first rows of a lent slice.
+#![tactic(auto)]
+
 ghost use Rattle.std.specs.Prelude.{◌≡◌, ℕ, ◌+◌, ◌-◌, ◌<◌, ◌≤◌, Bool, true, false, ◌&&◌, length, take, if◌then◌else◌, Ok, Err, MatchResult, nat_le, nat_lt};
 ghost use Rattle.table.specs.Laws.{Sorting};
 ghost use Rattle.table.specs.Rows.{Ascends, FoundAt, with_row, without_row};

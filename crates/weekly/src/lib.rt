@@ -2,6 +2,8 @@
 // `read` puts the changes of a file into an empty draft, or answers the first cause in order, with its place. What it reads is the
 // only file for those changes and that note. `note` hands out the note as a part of the file. `write` writes the only file for a
 // batch and a note. `receipt` does all of it in one call, and its output is the file's own bytes.
+#![tactic(auto)]
+
 mod body;
 mod fill;
 mod head;
