@@ -7,8 +7,8 @@ use groups::group::Group;
 
 // Enters them in their order. A refused one changes nothing.
 pub fn enter_all<R: Register>(register: &mut R, records: &[Group])
-    ensures held { held register.new ≡ entered_run (held register.old) (spare register.old) records.now }
-    ensures spare { spare register.new ≡ entered_left (held register.old) (spare register.old) records.now }
+    ensures held { R.held register.new ≡ entered_run (R.held register.old) (R.spare register.old) records.now }
+    ensures spare { R.spare register.new ≡ entered_left (R.held register.old) (R.spare register.old) records.now }
 {
     for group in records {
         let _ = register.enter(*group);
@@ -17,8 +17,8 @@ pub fn enter_all<R: Register>(register: &mut R, records: &[Group])
 
 // Strikes them in their order. A refused one changes nothing.
 pub fn strike_all<R: Register>(register: &mut R, records: &[Group])
-    ensures held { held register.new ≡ struck_run spends (held register.old) (spare register.old) records.now }
-    ensures spare { spare register.new ≡ struck_left spends (held register.old) (spare register.old) records.now }
+    ensures held { R.held register.new ≡ struck_run R.spends (R.held register.old) (R.spare register.old) records.now }
+    ensures spare { R.spare register.new ≡ struck_left R.spends (R.held register.old) (R.spare register.old) records.now }
 {
     for group in records {
         let _ = register.strike(*group);

@@ -23,7 +23,7 @@ pub trait Record: Copy {
 // Where `x` stands among the first `count` rows, or where it would go. A count past the memory's end counts as its length.
 // Rows that do not ascend leave the answer open, but it lies among them, and what it says it found stands there.
 pub fn find<T: Record>(rows: &[T], count: usize, x: &T) -> Result<usize, usize>
-    ensures value { Ascends before rows.now count → result ≡ placed before x.now (take count rows.now) }
+    ensures value { Ascends T.before rows.now count → result ≡ placed T.before x.now (take count rows.now) }
     ensures inside { MatchResult result (λ i. FoundAt rows.now count x.now i × (i < length rows.now)) (λ i. (i ≤ count) × (i ≤ length rows.now)) }
 {
     let mut low = 0;
@@ -47,8 +47,8 @@ pub fn find<T: Record>(rows: &[T], count: usize, x: &T) -> Result<usize, usize>
 pub fn put<T: Record>(rows: &mut [T], count: usize, at: usize, x: T) -> bool
     ensures test { result ≡ (nat_le at count && nat_lt count (length rows.old)) }
     ensures after { rows.new ≡ (if result then with_row rows.old count at x else rows.old) }
-    ensures ascends { result ≡ true → Ascends before rows.old count → placed before x (take count rows.old) ≡ Err at → Ascends before rows.new (count + 1) }
-    ensures entered { result ≡ true → Ascends before rows.old count → placed before x (take count rows.old) ≡ Err at → take (count + 1) rows.new ≡ entered before x (take count rows.old) }
+    ensures ascends { result ≡ true → Ascends T.before rows.old count → placed T.before x (take count rows.old) ≡ Err at → Ascends T.before rows.new (count + 1) }
+    ensures entered { result ≡ true → Ascends T.before rows.old count → placed T.before x (take count rows.old) ≡ Err at → take (count + 1) rows.new ≡ entered T.before x (take count rows.old) }
 {
     if count < at || rows.len() <= count {
         return false;
@@ -67,8 +67,8 @@ pub fn put<T: Record>(rows: &mut [T], count: usize, at: usize, x: T) -> bool
 pub fn take_out<T: Record>(rows: &mut [T], count: usize, at: usize) -> bool
     ensures test { result ≡ (nat_lt at count && nat_le count (length rows.old)) }
     ensures after { rows.new ≡ (if result then without_row rows.old count at else rows.old) }
-    ensures ascends { result ≡ true → Ascends before rows.old count → Ascends before rows.new (count - 1) }
-    ensures struck { (x : T) → result ≡ true → Ascends before rows.old count → placed before x (take count rows.old) ≡ Ok at → take (count - 1) rows.new ≡ struck before x (take count rows.old) }
+    ensures ascends { result ≡ true → Ascends T.before rows.old count → Ascends T.before rows.new (count - 1) }
+    ensures struck { (x : T) → result ≡ true → Ascends T.before rows.old count → placed T.before x (take count rows.old) ≡ Ok at → take (count - 1) rows.new ≡ struck T.before x (take count rows.old) }
 {
     if count <= at || rows.len() < count {
         return false;
@@ -83,7 +83,7 @@ pub fn take_out<T: Record>(rows: &mut [T], count: usize, at: usize) -> bool
 
 // The theorem that a list has one sorted list, which ascends and has the same records.
 pub fn sorting_stands<T: Record>() -> u8
-    ensures { Sorting {X = T} before }
+    ensures { Sorting {X = T} T.before }
 {
     0
 }

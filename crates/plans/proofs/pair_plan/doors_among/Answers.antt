@@ -10,8 +10,8 @@ use Rattle.plans.proofs.pair_plan.doors_among.Goals.{then-pair-key, else-pair-ke
 abbrev blank : Pair
 blank = record { key = 0; door = 0 }
 
-pub overflow-shl-doors : goal.overflow-shl-doors
-overflow-shl-doors c = (inside_at 64 64 c.args.pairs.now c.loop-pair.pair-index blank (omega arith) c.requires).1
+pub overflow_shl-doors : goal.overflow_shl-doors
+overflow_shl-doors c = (inside_at 64 64 c.args.pairs.now c.loop-pair.pair-index blank (omega arith) c.requires).1
 
 pub loop-pair-init : goal.loop-pair-init
 loop-pair-init c = doors_none c.args.key

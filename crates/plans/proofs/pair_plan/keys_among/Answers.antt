@@ -10,8 +10,8 @@ use Rattle.plans.proofs.pair_plan.keys_among.Goals.{then-pair-door, else-pair-do
 abbrev blank : Pair
 blank = record { key = 0; door = 0 }
 
-pub overflow-shl-keys : goal.overflow-shl-keys
-overflow-shl-keys c = (inside_at 64 64 c.args.pairs.now c.loop-pair.pair-index blank (omega arith) c.requires).0
+pub overflow_shl-keys : goal.overflow_shl-keys
+overflow_shl-keys c = (inside_at 64 64 c.args.pairs.now c.loop-pair.pair-index blank (omega arith) c.requires).0
 
 pub loop-pair-init : goal.loop-pair-init
 loop-pair-init c = keys_none c.args.door

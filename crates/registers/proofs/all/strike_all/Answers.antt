@@ -11,7 +11,7 @@ loop-group-preserved g c =
     let s = c.loop-group.register in
     let t = c.strike.new.self in
     let xs = c.args.records.now in
-    let i = c.loop-group.group_index in
+    let i = c.loop-group.group-index in
     let d : Group = record { keys = 0; doors = 0 } in
     let h : i < length xs = omega arith in
     let e = c.strike.ensures in (
@@ -24,7 +24,7 @@ returns g c =
     let r = g.R.Register in
     let s = c.loop-group.register in
     let xs = c.args.records.now in
-    let i = c.loop-group.group_index in
+    let i = c.loop-group.group-index in
     let h : length xs ≤ i = omega arith in
     record {
       held = sym (at_drop_all (struck_run r.spends (r.held s) (r.spare s)) xs i h) ∙ c.loop-group.invariant.0;

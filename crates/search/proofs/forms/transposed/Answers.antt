@@ -7,7 +7,7 @@ pub loop-k-init : goal.loop-k-init
 loop-k-init c = transposed_none c.args.rows.now c.args.doors
 
 pub loop-k-preserved : goal.loop-k-preserved
-loop-k-preserved c = transposed_more c.requires.doors c.first-every.ensures c.loop-k.invariant c.join-key.ensures
+loop-k-preserved c = transposed_more c.requires.doors c.first-every.ensures c.loop-k.invariant c.join_key.ensures
 
 pub returns : goal.returns
 returns c =

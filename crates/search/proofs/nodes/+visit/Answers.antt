@@ -49,15 +49,15 @@ visit-requires t c =
     let f = left_falls n p.small p.upper q c.close-keys.ensures c.common-marks.ensures c.if-keys-out-eq0.true c.if-marks-ne0.true in
     (omega arith, (room_now n room p, next_node n p.small p.upper q c.close-keys.ensures c.common-marks.ensures c.if-keys-out-eq0.true c.if-marks-ne0.true))
 
-pub returns-in-err-end : goal.returns-in-err-end
-returns-in-err-end t c =
+pub returns-in_err-end : goal.returns-in_err-end
+returns-in_err-end t c =
     let n = c.requires.node in
     let p = c.loop-rest.invariant in
-    let q = peels t (goal.at.returns-in-err-end t c).In-loop-rest in
-    let b = begun t (goal.at.returns-in-err-end t c).Joined-node-ne0 in
-    let e = c.in-err-end.ensures in
+    let q = peels t (goal.at.returns-in_err-end t c).In-loop-rest in
+    let b = begun t (goal.at.returns-in_err-end t c).Joined-node-ne0 in
+    let e = c.in_err-end.ensures in
     record {
-      answer = c.from-residual.ensures ∙ breaks_answer n c.requires.room b p q c.close-keys.ensures e.answer;
+      answer = c.from_residual.ensures ∙ breaks_answer n c.requires.room b p q c.close-keys.ensures e.answer;
       table = e.table ∙ breaks_table n c.requires.room b p q c.close-keys.ensures e.answer;
     }
 
@@ -65,8 +65,8 @@ pub loop-rest-preserved-then-marks-ne0 : goal.loop-rest-preserved-then-marks-ne0
 loop-rest-preserved-then-marks-ne0 t c =
     let q = peels t (goal.at.loop-rest-preserved-then-marks-ne0 t c).In-loop-rest in
     let room = room_at t (goal.at.loop-rest-preserved-then-marks-ne0 t c).In-loop-rest in
-    let e = c.in-ok-end.ensures in
-    turns c.requires.node room c.loop-rest.invariant q c.close-keys.ensures (some_written c.loop-rest.table c.loop-rest.end _ c.in-ok-end.end e.answer e.table)
+    let e = c.in_ok-end.ensures in
+    turns c.requires.node room c.loop-rest.invariant q c.close-keys.ensures (some_written c.loop-rest.table c.loop-rest.end _ c.in_ok-end.end e.answer e.table)
 
 pub loop-rest-preserved-else-marks-ne0 : goal.loop-rest-preserved-else-marks-ne0
 loop-rest-preserved-else-marks-ne0 t c =

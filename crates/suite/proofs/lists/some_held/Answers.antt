@@ -6,12 +6,12 @@ use Rattle.suite.proofs.lists.some_held.Goals as goal
 
 pub returns-then-holds : goal.returns-then-holds
 returns-then-holds g c =
-    some_found c.args.groups.now (g.R.Register.held c.args.register.now) c.loop-group.group_index c.loop-group-test.true (sym c.holds.ensures ∙ c.if-holds.true) c.loop-group.invariant
+    some_found c.args.groups.now (g.R.Register.held c.args.register.now) c.loop-group.group-index c.loop-group-test.true (sym c.holds.ensures ∙ c.if-holds.true) c.loop-group.invariant
 
 pub loop-group-preserved : goal.loop-group-preserved
 loop-group-preserved g c =
-    some_more c.args.groups.now (g.R.Register.held c.args.register.now) c.loop-group.group_index c.loop-group-test.true (sym c.holds.ensures ∙ c.if-holds.false) c.loop-group.invariant
+    some_more c.args.groups.now (g.R.Register.held c.args.register.now) c.loop-group.group-index c.loop-group-test.true (sym c.holds.ensures ∙ c.if-holds.false) c.loop-group.invariant
 
 pub returns : goal.returns
 returns g c =
-    sym (at_drop_all (λ z. some_are_held z (g.R.Register.held c.args.register.now)) c.args.groups.now c.loop-group.group_index c.loop-group-test.false) ∙ c.loop-group.invariant
+    sym (at_drop_all (λ z. some_are_held z (g.R.Register.held c.args.register.now)) c.args.groups.now c.loop-group.group-index c.loop-group-test.false) ∙ c.loop-group.invariant

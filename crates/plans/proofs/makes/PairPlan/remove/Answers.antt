@@ -2,12 +2,12 @@ use Rattle.std.proofs.Common.{refl}
 use Rattle.plans.proofs.Rewrites.{take_away}
 use Rattle.plans.proofs.makes.PairPlan.remove.Goals as goal
 
-pub invariant-of-self : goal.invariant-of-self
-invariant-of-self c =
-    let w = take_away c.args.self.now c.args.pair c.requires.inside c.args.at c.take-out.new.rows c.take-out.result c.take-out.auto.rows c.requires.place c.take-out.ensures.test c.take-out.ensures.ascends c.take-out.ensures.struck in
-    (w.within, (w.few, (w.ascends, (w.lies, tt))))
+pub invariant_of-self : goal.invariant_of-self
+invariant_of-self c =
+    let w = take_away c.args.self.now c.args.pair c.requires.inside c.args.at c.take_out.new.rows c.take_out.result c.take_out.auto.rows c.requires.place c.take_out.ensures.test c.take_out.ensures.ascends c.take_out.ensures.struck in
+    record { within = w.within; few = w.few; ascends = w.ascends; lies = w.lies }
 
 pub returns : goal.returns
 returns c =
-    let w = take_away c.args.self.now c.args.pair c.requires.inside c.args.at c.take-out.new.rows c.take-out.result c.take-out.auto.rows c.requires.place c.take-out.ensures.test c.take-out.ensures.ascends c.take-out.ensures.struck in
-    record { sizes = refl; rows = w.rows-after; spare = w.spare-after; same = refl }
+    let w = take_away c.args.self.now c.args.pair c.requires.inside c.args.at c.take_out.new.rows c.take_out.result c.take_out.auto.rows c.requires.place c.take_out.ensures.test c.take_out.ensures.ascends c.take_out.ensures.struck in
+    record { sizes = refl; rows = w.rows_after; spare = w.spare_after; same = refl }

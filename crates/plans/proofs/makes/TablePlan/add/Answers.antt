@@ -9,13 +9,13 @@ use Rattle.plans.proofs.makes.TablePlan.add.Goals as goal
 shifted : (x i : ℕ) → i < 64 → bit_or x ((1 * 2 ^ i) % 2 ^ 64) ≡ joined x i
 shifted x i h = ap (bit_or x) (one_shl i 64 h) ∙ or_joined x i
 
-pub invariant-of-self : goal.invariant-of-self
-invariant-of-self c =
+pub invariant_of-self : goal.invariant_of-self
+invariant_of-self c =
     let p = c.args.self.now in
     let k = c.args.key in
     let d = c.args.door in
     let w = put_in p k d c.requires.inside _ _ (shifted (get_or p.rows k 0) d (d64 p k d c.requires.inside)) (shifted (get_or p.columns d 0) k (k64 p k d c.requires.inside)) c.requires.absent c.requires.room in
-    (w.tall, (w.wide, (w.agree, (w.doors-below, (w.keys-below, (w.counts, (w.fits, tt)))))))
+    record { tall = w.tall; wide = w.wide; agree = w.agree; doors_below = w.doors_below; keys_below = w.keys_below; counts = w.counts; fits = w.fits }
 
 pub returns : goal.returns
 returns c =
@@ -24,4 +24,4 @@ returns c =
     let d = c.args.door in
     let w = put_in p k d c.requires.inside _ _ (shifted (get_or p.rows k 0) d (d64 p k d c.requires.inside)) (shifted (get_or p.columns d 0) k (k64 p k d c.requires.inside)) c.requires.absent c.requires.room in
     let n = p.counts in
-    record { sizes = refl; rows = w.rows-after; spare = omega (arith, w.counts) }
+    record { sizes = refl; rows = w.rows_after; spare = omega (arith, w.counts) }

@@ -2,13 +2,13 @@ use Rattle.std.proofs.Common.{◌≡◌, refl, arith}
 use Rattle.plans.proofs.Cells.{some_pair, take_away}
 use Rattle.plans.proofs.makes.TablePlan.remove.Goals as goal
 
-pub overflow-sub-self : goal.overflow-sub-self
-overflow-sub-self c = let s = some_pair c.args.self.now c.args.key c.args.door c.requires.inside c.requires.there in omega arith
+pub overflow_sub-self : goal.overflow_sub-self
+overflow_sub-self c = let s = some_pair c.args.self.now c.args.key c.args.door c.requires.inside c.requires.there in omega arith
 
-pub invariant-of-self : goal.invariant-of-self
-invariant-of-self c =
+pub invariant_of-self : goal.invariant_of-self
+invariant_of-self c =
     let w = take_away c.args.self.now c.args.key c.args.door c.requires.inside c.without.result c.without-2.result c.without.ensures c.without-2.ensures c.requires.there in
-    (w.tall, (w.wide, (w.agree, (w.doors-below, (w.keys-below, (w.counts, (w.fits, tt)))))))
+    record { tall = w.tall; wide = w.wide; agree = w.agree; doors_below = w.doors_below; keys_below = w.keys_below; counts = w.counts; fits = w.fits }
 
 pub returns : goal.returns
 returns c =
@@ -17,4 +17,4 @@ returns c =
     let s = some_pair p c.args.key c.args.door c.requires.inside c.requires.there in
     let n = p.counts in
     let f = p.fits in
-    record { sizes = refl; rows = w.rows-after; spare = omega (arith, w.counts) }
+    record { sizes = refl; rows = w.rows_after; spare = omega (arith, w.counts) }

@@ -5,12 +5,12 @@ use Rattle.plans.specs.Lents.{lent_keys, lent_doors, lent_pairs}
 use Rattle.plans.proofs.Listed.{inside_wide, keys_column}
 use Rattle.plans.proofs.pair_plan.PairPlanReadPlan.keys_of.Goals as goal
 
-pub keys-among-requires : goal.keys-among-requires
-keys-among-requires c =
+pub keys_among-requires : goal.keys_among-requires
+keys_among-requires c =
     let p = c.args.self.now in
     ap (all_inside 64 64) c.pairs.ensures ∙ inside_wide (lent_keys p) (lent_doors p) (lent_pairs p) p.sizes.few_keys p.sizes.few_doors p.lies
 
 pub returns : goal.returns
 returns c =
     let p = c.args.self.now in
-    c.keys-among.ensures ∙ ap (λ (n : ℕ). keys_in n c.pairs.result.now) c.number.ensures.value ∙ ap (keys_in c.args.door.value) c.pairs.ensures ∙ keys_column (lent_keys p) (lent_doors p) (lent_pairs p) p.lies p.sizes.few_keys p.sizes.few_doors c.args.door.value
+    c.keys_among.ensures ∙ ap (λ (n : ℕ). keys_in n c.pairs.result.now) c.number.ensures.value ∙ ap (keys_in c.args.door.value) c.pairs.ensures ∙ keys_column (lent_keys p) (lent_doors p) (lent_pairs p) p.lies p.sizes.few_keys p.sizes.few_doors c.args.door.value

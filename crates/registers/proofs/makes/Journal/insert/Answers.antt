@@ -14,12 +14,12 @@ put-requires c =
     let k = c.write.auto.rows in
     ((goes j c.args.«record» c.args.at c.requires.place).0, omega (arith, j.short))
 
-pub invariant-of-self : goal.invariant-of-self
-invariant-of-self c =
+pub invariant_of-self : goal.invariant_of-self
+invariant_of-self c =
     let w = note_entered c.args.self.now c.args.«record» c.put.new.rows (c.put.auto.rows ∙ c.write.auto.rows) c.requires.room c.args.at c.requires.place (c.put.ensures.calls ∙ c.write.ensures.calls) (c.put.ensures.column ∙ ap (λ (z : List Group). with_row z c.args.self.now.count c.args.at c.args.«record») c.write.ensures.column) in
-    (w.within, (w.few, (w.short, (w.agrees, (w.sound, tt)))))
+    record { within = w.within; few = w.few; short = w.short; agrees = w.agrees; sound = w.sound }
 
 pub returns : goal.returns
 returns c =
     let w = note_entered c.args.self.now c.args.«record» c.put.new.rows (c.put.auto.rows ∙ c.write.auto.rows) c.requires.room c.args.at c.requires.place (c.put.ensures.calls ∙ c.write.ensures.calls) (c.put.ensures.column ∙ ap (λ (z : List Group). with_row z c.args.self.now.count c.args.at c.args.«record») c.write.ensures.column) in
-    record { held = w.held-after; spare = w.spare-after; same = refl }
+    record { held = w.held_after; spare = w.spare_after; same = refl }

@@ -7,19 +7,19 @@ use Rattle.registers.proofs.makes.Journal.remove.Goals as goal
 pub write-requires : goal.write-requires
 write-requires c = omega (arith, c.requires.room)
 
-pub take-out-requires : goal.take-out-requires
-take-out-requires c =
+pub take_out-requires : goal.take_out-requires
+take_out-requires c =
     let j = c.args.self.now in
     let r = c.requires.room in
     let k = c.write.auto.rows in
     ((found j c.args.«record» c.args.at c.requires.place).0, omega (arith, j.short))
 
-pub invariant-of-self : goal.invariant-of-self
-invariant-of-self c =
-    let w = note_struck c.args.self.now c.args.«record» c.take-out.new.rows (c.take-out.auto.rows ∙ c.write.auto.rows) c.requires.room c.args.at c.requires.place (c.take-out.ensures.calls ∙ c.write.ensures.calls) (c.take-out.ensures.column ∙ ap (λ (z : List Group). without_row z c.args.self.now.count c.args.at) c.write.ensures.column) in
-    (w.within, (w.few, (w.short, (w.agrees, (w.sound, tt)))))
+pub invariant_of-self : goal.invariant_of-self
+invariant_of-self c =
+    let w = note_struck c.args.self.now c.args.«record» c.take_out.new.rows (c.take_out.auto.rows ∙ c.write.auto.rows) c.requires.room c.args.at c.requires.place (c.take_out.ensures.calls ∙ c.write.ensures.calls) (c.take_out.ensures.column ∙ ap (λ (z : List Group). without_row z c.args.self.now.count c.args.at) c.write.ensures.column) in
+    record { within = w.within; few = w.few; short = w.short; agrees = w.agrees; sound = w.sound }
 
 pub returns : goal.returns
 returns c =
-    let w = note_struck c.args.self.now c.args.«record» c.take-out.new.rows (c.take-out.auto.rows ∙ c.write.auto.rows) c.requires.room c.args.at c.requires.place (c.take-out.ensures.calls ∙ c.write.ensures.calls) (c.take-out.ensures.column ∙ ap (λ (z : List Group). without_row z c.args.self.now.count c.args.at) c.write.ensures.column) in
-    record { held = w.held-after; spare = w.spare-after; same = refl }
+    let w = note_struck c.args.self.now c.args.«record» c.take_out.new.rows (c.take_out.auto.rows ∙ c.write.auto.rows) c.requires.room c.args.at c.requires.place (c.take_out.ensures.calls ∙ c.write.ensures.calls) (c.take_out.ensures.column ∙ ap (λ (z : List Group). without_row z c.args.self.now.count c.args.at) c.write.ensures.column) in
+    record { held = w.held_after; spare = w.spare_after; same = refl }

@@ -2,12 +2,12 @@ use Rattle.std.proofs.Common.{refl}
 use Rattle.registers.proofs.Rewrites.{put_in}
 use Rattle.registers.proofs.makes.SortedRegister.insert.Goals as goal
 
-pub invariant-of-self : goal.invariant-of-self
-invariant-of-self c =
+pub invariant_of-self : goal.invariant_of-self
+invariant_of-self c =
     let w = put_in c.args.self.now c.args.«record» c.args.at c.put.new.rows c.put.result c.put.auto.rows c.requires.room c.requires.place c.put.ensures.test c.put.ensures.ascends c.put.ensures.entered in
-    (w.within, (w.few, (w.ascends, tt)))
+    record { within = w.within; few = w.few; ascends = w.ascends }
 
 pub returns : goal.returns
 returns c =
     let w = put_in c.args.self.now c.args.«record» c.args.at c.put.new.rows c.put.result c.put.auto.rows c.requires.room c.requires.place c.put.ensures.test c.put.ensures.ascends c.put.ensures.entered in
-    record { held = w.held-after; spare = w.spare-after; same = refl }
+    record { held = w.held_after; spare = w.spare_after; same = refl }

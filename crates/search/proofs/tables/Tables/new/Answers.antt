@@ -11,10 +11,18 @@ keys_are c = omega arith
 ends : (c : After-transposed-columns) → (k : ℕ) → c.min-keys.result ≤ k → get_or c.padded-rows.result k 0 ≡ 0
 ends c k l = ap (λ (r : List ℕ). get_or r k 0) c.padded-rows.ensures ∙ padded_past c.args.rows.now c.min-keys.result (keys_are c) k l
 
-pub invariant-of-result : goal.invariant-of-result
-invariant-of-result c =
+pub invariant_of-result : goal.invariant_of-result
+invariant_of-result c =
     let t = c.transposed-columns.ensures in
-    (omega arith, (omega arith, (ap length c.padded-rows.ensures ∙ padded_length c.args.rows.now, (t.long, (ends c, (columns_past (ends c) t, (agreeing (ends c) t, tt)))))))
+    record {
+      few_keys = omega arith;
+      few_doors = omega arith;
+      tall = ap length c.padded-rows.ensures ∙ padded_length c.args.rows.now;
+      wide = t.long;
+      rows_end = ends c;
+      columns_end = columns_past (ends c) t;
+      agree = agreeing (ends c) t;
+    }
 
 pub returns : goal.returns
 returns c =
