@@ -1,10 +1,9 @@
 -- A held part of the table, put into order, is the listing.
 use Rattle.std.proofs.Common.{◌≡◌, ℕ, ◌+◌, ◌-◌, ◌<◌, ◌≤◌, true, false, ◌⊎◌, List, [], ◌∷◌, length, get_or, take, drop, Less, sym, refl, ap, ◌∙◌, subst, inl, inr, ⊎_elim, arith}
 use Rattle.std.specs.List.{swap, between}
-use Rattle.std.specs.Cmp.Derive.{Lex, on, fields}
-use Rattle.std.specs.Cmp.{IsTotalOrder, nat_cmp_total}
-use Rattle.std.specs.Ordering.{MatchOrdering, is_lt}
-use Rattle.std.specs.List.Sorted.{IsPermutation, IsNonDecreasingBy, IsSortedWithin}
+use Rattle.std.specs.declared.cmp.Ordering.{Ordering}
+use Rattle.std.specs.Ordering.{is_lt}
+use Rattle.std.specs.List.Sorted.{IsPermutation, IsNonDecreasingBy, IsSorted}
 use Rattle.std.proofs.lemmas.List.{get_or-take, get_or-drop, length-take, length-drop}
 use Rattle.std.proofs.lemmas.List.Edits.{Swapped, swapped_from_swap, length-swap}
 use Rattle.std.proofs.lemmas.List.Sorted.{IsPermutation-keeps, IsNonDecreasingBy-from_all_adjacent}
@@ -102,14 +101,9 @@ listing_from n ys long h up group =
     omega (arith, up i k nothing (omega arith) m))
     (λ g p. let f = h.complete g p in (f.0, omega (arith, f.2), f.3))
 
--- the order of groups, by both sides: what is in that order has its keys in order
-abbrev pub by_both : IsTotalOrder (λ (x y : Group). Lex (λ r. MatchOrdering r (x.keys < y.keys) (x.keys ≡ y.keys) (y.keys < x.keys)) (λ r. MatchOrdering r (x.doors < y.doors) (x.doors ≡ y.doors) (y.doors < x.doors)))
-by_both = on (λ (g : Group). (g.keys, g.doors)) (fields nat_cmp_total nat_cmp_total)
-
-less_first : (a b x y : ℕ) → a < b → is_lt ((fields nat_cmp_total nat_cmp_total).cmp (a, x) (b, y)) ≡ true
-less_first a b x y l = ap is_lt (sym ((fields nat_cmp_total nat_cmp_total).says (a, x) (b, y) Less (inl (l, refl))))
-
-pub rises_by_keys : (xs : List Group) (m : ℕ) → length xs ≡ m → IsSortedWithin (λ x y. is_lt (by_both.cmp x y)) xs 0 m → IsNonDecreasingBy (λ g. g.keys) xs
-rises_by_keys xs m long up = IsNonDecreasingBy-from_all_adjacent (λ (g : Group). g.keys) xs
-    (λ k d l. ⊎_elim (λ h. absurd (true≢false (sym (less_first (get_or xs (k + 1) d).keys (get_or xs k d).keys (get_or xs (k + 1) d).doors (get_or xs k d).doors h) ∙ up k d (omega arith) (omega arith)))) (λ h. h)
+-- an order that puts a group with fewer keys first: what is in that order has its keys in order
+pub rises_by_keys : (cmp : Group → Group → Ordering) → ((x y : Group) → x.keys < y.keys → is_lt (cmp x y) ≡ true) → (xs : List Group) → IsSorted cmp xs
+    → IsNonDecreasingBy (λ g. g.keys) xs
+rises_by_keys cmp first xs up = IsNonDecreasingBy-from_all_adjacent (λ (g : Group). g.keys) xs
+    (λ k d l. ⊎_elim (λ h. absurd (true≢false (sym (first (get_or xs (k + 1) d) (get_or xs k d) h) ∙ up k d (omega arith) (omega arith)))) (λ h. h)
     (cases_lt (get_or xs (k + 1) d).keys (get_or xs k d).keys))

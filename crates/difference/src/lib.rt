@@ -375,7 +375,7 @@ fn order(table: &mut [Group], from: usize, end: usize)
     requires high { end ≤ length table.old }
     ensures { Ordered table.old table.new from end }
 {
-    table[from..end].sort();
+    table[from..end].sort_unstable();
 }
 
 // Writes the groups of the plan `after` that are none of the plan `before` to the table from `from` on, ascending.

@@ -11,7 +11,7 @@ use faults::weekly::FileFault;
 fn opens(file: &[u8]) -> bool
     ensures { result ≡ opened file.now }
 {
-    file.len() >= 5 && &file[0..4] == b"WKL1"
+    file.len() >= 5 && &file[0..4] == b"WKL1".as_slice()
 }
 
 // A number in two bytes, low byte first.

@@ -9,7 +9,7 @@ returns c =
     let u = c.args.u in
     let e : 1 * 2 ^ u % 2 ^ 64 ≡ 2 ^ u = one_shl u 64 (omega arith) in
     let t = c.args.tables.now in
-    outcome_from _ c.args.table.now c.groups-watched.new.table c.args.count c.groups-watched.result c.requires.room
-    (family_listing c.args.before.now c.args.after.now (plan_doors t) u c.args.gained c.args.lost c.watch-rows-watch.result c.requires.few c.requires.same
-    c.requires.apart (omega arith) (omega arith) c.watch-rows-watch.ensures (1 * 2 ^ u % 2 ^ 64) (plan_rows t) e c.requires.tables)
-    c.groups-watched.ensures.answer c.groups-watched.ensures.table
+    outcome_from _ c.args.table.now c.groups_watched.new.table c.args.count c.groups_watched.result c.requires.room
+    (family_listing c.args.before.now c.args.after.now (plan_doors t) u c.args.gained c.args.lost c.watch_rows-watch.result c.requires.few c.requires.same
+    c.requires.apart (omega arith) (omega arith) c.watch_rows-watch.ensures (1 * 2 ^ u % 2 ^ 64) (plan_rows t) e c.requires.tables)
+    c.groups_watched.ensures.answer c.groups_watched.ensures.table

@@ -7,19 +7,19 @@ either : (b : Bool) (P Q R S : Type 0) → MatchBool b P Q → (P → R) → (Q 
 either true P Q R S h f g = f h
 either false P Q R S h f g = g h
 
-pub touched-by-door-requires : goal.touched-by-door-requires
-touched-by-door-requires c =
+pub touched_by_door-requires : goal.touched_by_door-requires
+touched_by_door-requires c =
     record {
       few = c.requires.plans.doors;
       keys = c.requires.plans.few;
       same = c.requires.plans.after_turned.long;
       lost = c.requires.marked.doors_lost;
-      doors = c.requires.doors-to;
+      doors = c.requires.doors_to;
       within = λ d h. below_has (length c.args.before.columns.now) c.args.g.doors d c.requires.group.doors_below h;
     }
 
-pub returns-else-touched-by-key : goal.returns-else-touched-by-key
-returns-else-touched-by-key c =
+pub returns-else-touched_by_key : goal.returns-else-touched_by_key
+returns-else-touched_by_key c =
     let bs = c.args.before.rows.now in
     let rs = c.args.after.rows.now in
     let bc = c.args.before.columns.now in
@@ -27,7 +27,7 @@ returns-else-touched-by-key c =
     let D = length bc in
     let g = c.args.g in
     let below = c.requires.group.doors_below in
-    either c.touched-by-door.result _ _ _ _ c.touched-by-door.ensures
+    either c.touched_by_door.result _ _ _ _ c.touched_by_door.ensures
     (λ a. inr (a.0, a.1, column_to bs rs bc ac D a.0 c.requires.plans.same c.requires.plans.before_turned c.requires.plans.after_turned (let l = a.1 in omega arith) g below a.2))
-    (λ none t. ⊎_elim (λ a. c.if-touched-by-key.ensures a)
+    (λ none t. ⊎_elim (λ a. c.if-touched_by_key.ensures a)
     (λ a. none (a.0, a.1, column_from bs rs bc ac D a.0 c.requires.plans.same c.requires.plans.before_turned c.requires.plans.after_turned (let l = a.1 in omega arith) g below a.2)) t)

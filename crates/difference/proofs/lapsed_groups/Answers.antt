@@ -13,5 +13,5 @@ returns c =
     let D = min c.args.doors 64 in
     let k = shared_count before after in
     let e : shared_count after before ≡ k = omega arith in
-    let W : List Group → Type 0 = λ l. Written l c.args.table.now c.new-groups.new.table c.args.from c.args.limit c.new-groups.result in
-    subst W (ap (λ (n : ℕ). new_groups_of (take n after) (take n before) D) e ∙ sym (lapsed_new (take k before) (take k after) D)) c.new-groups.ensures
+    let W : List Group → Type 0 = λ l. Written l c.args.table.now c.new_groups.new.table c.args.from c.args.limit c.new_groups.result in
+    subst W (ap (λ (n : ℕ). new_groups_of (take n after) (take n before) D) e ∙ sym (lapsed_new (take k before) (take k after) D)) c.new_groups.ensures

@@ -24,10 +24,10 @@ gather-requires c =
       room = c.requires.room;
     }
 
-pub returns-in-err-end : goal.returns-in-err-end
-returns-in-err-end c =
-    let h = c.in-err-end.ensures in
-    rw c.from-residual.ensures
+pub returns-in_err-end : goal.returns-in_err-end
+returns-in_err-end c =
+    let h = c.in_err-end.ensures in
+    rw c.from_residual.ensures
     (relisted None c.rows.ensures c.rows-2.ensures (columns_long c.args.before.now _ _ c.rows.ensures c.columns.ensures) (record { kept = h.0; result = h.1 }))
 
 pub returns : goal.returns
@@ -36,10 +36,10 @@ returns c =
     let rs = c.rows-2.result.now in
     let D = length c.columns.result.now in
     let from = c.args.from in
-    let end = c.in-ok-end.end in
+    let end = c.in_ok-end.end in
     let T = c.gather.new.table in
     let T' = c.order.new.table in
-    let h = c.in-ok-end.ensures in
+    let h = c.in_ok-end.ensures in
     let p = part_held h.1.0 in
     let q = shuffled_held (end - from) (between from end T) (between from end T') p.0 p.1 c.order.ensures.shuffled in
     let l = listing_from (end - from) (between from end T') q.0 q.1 c.order.ensures.rises (λ g n. n.0) in

@@ -17,7 +17,7 @@ loop-k-preserved c =
       | then-before-k-ne0 w ↦ subst L (sym w.set-is) (losing_more bs rs n k set c.loop-k.invariant (1 * 2 ^ k % 2 ^ 64) (one_shl k 64 (omega arith)))
       | else-before-k-ne0 w ↦
           subst L (sym w.set-is)
-          (losing_same bs rs n k set c.loop-k.invariant c.first-every.result (omega (arith, c.type-inv.before k)) (omega (arith, c.type-inv.after k)) c.requires.places c.first-every.ensures w.if-before-k-ne0.false)
+          (losing_same bs rs n k set c.loop-k.invariant c.first-every.result (omega (arith, c.type_inv.before k)) (omega (arith, c.type_inv.after k)) c.requires.places c.first-every.ensures w.if-before-k-ne0.false)
     ]
 
 pub returns : goal.returns

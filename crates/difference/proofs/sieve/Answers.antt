@@ -14,8 +14,8 @@ known-requires c =
     record {
       plans = c.requires.plans;
       marked = c.requires.marked;
-      keys-to = c.requires.keys-to;
-      doors-to = c.requires.doors-to;
+      keys_to = c.requires.keys_to;
+      doors_to = c.requires.doors_to;
       group = subst (IsGroup c.args.after.rows.now (length c.args.before.columns.now)) (sym (c.loop-i.invariant.1 c.loop-i.i (omega arith)))
           (c.requires.drawn.sound c.loop-i.i (omega arith) c.loop-i-test.true);
     }

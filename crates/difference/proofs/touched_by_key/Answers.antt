@@ -40,15 +40,15 @@ bounds-before-k c = let l = key_below (goal.at.bounds-before-k c).In-loop-rest i
 pub bounds-after-k : goal.bounds-after-k
 bounds-after-k c = let l = key_below (goal.at.bounds-after-k c).In-loop-rest in omega arith
 
-pub returns-then-key-touches : goal.returns-then-key-touches
-returns-then-key-touches c =
-    let q = c.loop-rest.invariant.part _ (peels (goal.at.returns-then-key-touches c).In-loop-rest).low in
-    (count_trailing_zeros 64 c.loop-rest.rest, q.1, key_from_lacks c.args.before.now c.args.after.now c.args.doors _ c.shared-common.result c.args.g c.requires.same c.requires.group c.shared-common.ensures q.0 c.if-key-touches.ensures)
+pub returns-then-key_touches : goal.returns-then-key_touches
+returns-then-key_touches c =
+    let q = c.loop-rest.invariant.part _ (peels (goal.at.returns-then-key_touches c).In-loop-rest).low in
+    (count_trailing_zeros 64 c.loop-rest.rest, q.1, key_from_lacks c.args.before.now c.args.after.now c.args.doors _ c.shared-common.result c.args.g c.requires.same c.requires.group c.shared-common.ensures q.0 c.if-key_touches.ensures)
 
 pub loop-rest-preserved : goal.loop-rest-preserved
 loop-rest-preserved c =
     asking_next c.loop-rest.invariant (peels (goal.at.loop-rest-preserved c).In-loop-rest)
-    (λ t. c.if-key-touches.ensures (lacks_from_key c.args.before.now c.args.after.now c.args.doors _ c.shared-common.result c.args.g c.requires.same c.requires.group c.shared-common.ensures t))
+    (λ t. c.if-key_touches.ensures (lacks_from_key c.args.before.now c.args.after.now c.args.doors _ c.shared-common.result c.args.g c.requires.same c.requires.group c.shared-common.ensures t))
 
 pub returns : goal.returns
 returns c = asking_none c.loop-rest.invariant c.loop-rest-test.false

@@ -4,8 +4,8 @@ use Rattle.listing.proofs.Parts.{begun, decimal_short}
 use Rattle.listing.proofs.lines.booked.Goals as goal
 
 -- the longest line: 2 and 3 bytes, and two numbers of 20 digits
-pub end-numbers-requires : goal.end-numbers-requires
-end-numbers-requires c = omega (arith, ap length c.begin-line.ensures, decimal_short c.args.new (omega arith), decimal_short c.args.lapsed (omega arith))
+pub end_numbers-requires : goal.end_numbers-requires
+end_numbers-requires c = omega (arith, ap length c.begin-line.ensures, decimal_short c.args.new (omega arith), decimal_short c.args.lapsed (omega arith))
 
 pub returns : goal.returns
-returns c = begun (codes "ok") (further (decimal c.args.new ∷ decimal c.args.lapsed ∷ [])) c.begin-line.ensures c.end-numbers.ensures
+returns c = begun (codes "ok") (further (decimal c.args.new ∷ decimal c.args.lapsed ∷ [])) c.begin-line.ensures c.end_numbers.ensures

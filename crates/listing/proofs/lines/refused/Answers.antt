@@ -6,21 +6,21 @@ use Rattle.listing.proofs.Joins.{joined}
 use Rattle.listing.proofs.Parts.{begun, decimal_short, decimal_byte, field_length, layer_short, refusal}
 use Rattle.listing.proofs.lines.refused.Goals as goal
 
-pub end-numbers-requires : goal.end-numbers-requires
-end-numbers-requires c =
+pub end_numbers-requires : goal.end_numbers-requires
+end_numbers-requires c =
     omega (
       arith,
       ap length c.begin-line.ensures,
-      ap length c.layer-word.ensures,
+      ap length c.layer_word.ensures,
       layer_short c.layer.result,
-      field_length (line_bytes c.begin-line.result) c.layer-word.result.now c.add-word.ensures,
+      field_length (line_bytes c.begin-line.result) c.layer_word.result.now c.add_word.ensures,
       decimal_byte c.cause-number.result.number (omega arith),
-      decimal_short c.unwrap-or.result (omega arith),
+      decimal_short c.unwrap_or.result (omega arith),
     )
 
 pub returns : goal.returns
 returns c =
-    let numbers : List ℕ = further (decimal c.cause-number.result.number ∷ decimal c.unwrap-or.result ∷ []) in
-    refusal c.layer.result (intake_layer c.args.fault.now) c.cause-number.result (intake_cause c.args.fault.now) c.layer.ensures c.cause-number.ensures c.layer-word.ensures c.unwrap-or.ensures
-    (begun (codes "no") (32 ∷ (c.layer-word.result.now ++ numbers)) c.begin-line.ensures
-    (joined (line_bytes c.begin-line.result) (32 ∷ c.layer-word.result.now) numbers c.add-word.ensures c.end-numbers.ensures))
+    let numbers : List ℕ = further (decimal c.cause-number.result.number ∷ decimal c.unwrap_or.result ∷ []) in
+    refusal c.layer.result (intake_layer c.args.fault.now) c.cause-number.result (intake_cause c.args.fault.now) c.layer.ensures c.cause-number.ensures c.layer_word.ensures c.unwrap_or.ensures
+    (begun (codes "no") (32 ∷ (c.layer_word.result.now ++ numbers)) c.begin-line.ensures
+    (joined (line_bytes c.begin-line.result) (32 ∷ c.layer_word.result.now) numbers c.add_word.ensures c.end_numbers.ensures))

@@ -8,4 +8,4 @@ use Rattle.listing.proofs.lines.signed.Goals as goal
 pub returns : goal.returns
 returns c =
     begun (c.args.sign ∷ []) (further (hexadecimal c.args.group.keys ∷ hexadecimal c.args.group.doors ∷ [])) c.begin-line.ensures
-    (two_fields (line_bytes c.begin-line.result) (hexadecimal c.args.group.keys) (hexadecimal c.args.group.doors) c.add-mask.ensures c.add-mask-2.ensures c.end.ensures)
+    (two_fields (line_bytes c.begin-line.result) (hexadecimal c.args.group.keys) (hexadecimal c.args.group.doors) c.add_mask.ensures c.add_mask-2.ensures c.end.ensures)

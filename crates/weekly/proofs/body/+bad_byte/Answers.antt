@@ -3,8 +3,8 @@ use Rattle.std.proofs.lemmas.Bool.Decides.{nat_tests}
 use Rattle.weekly.proofs.Bodies.{bad_none, bad_more}
 use Rattle.weekly.proofs.body.+bad_byte.Goals as goal
 
-pub returns-in-default : goal.returns-in-default
-returns-in-default t c = sym (bad_none _ _ (omega (arith, ltb-true, ltb-false)))
+pub returns-in_default : goal.returns-in_default
+returns-in_default t c = sym (bad_none _ _ (omega (arith, ltb-true, ltb-false)))
 
 pub returns-then-b-lt32 : goal.returns-then-b-lt32
 returns-then-b-lt32 t c = let m = bad_more c.args.place c.args.note.now (omega (arith, ltb-true, ltb-false)) in grind (arith, nat_tests)

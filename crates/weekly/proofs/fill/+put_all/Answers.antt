@@ -9,8 +9,8 @@ use Rattle.weekly.proofs.Marked.{marked_none}
 use Rattle.weekly.proofs.Puts.{put_fits, put_all_changes, put_all_memory}
 use Rattle.weekly.proofs.fill.+put_all.Goals as goal
 
-pub returns-in-default : goal.returns-in-default
-returns-in-default t c =
+pub returns-in_default : goal.returns-in_default
+returns-in_default t c =
     let d = c.args.draft.now in
     record {
       changes = sym (ap (λ (z : List Change). all_entered change_before z (changes d)) (marked_none c.args.mark c.args.body.now (omega (arith, ltb-true, ltb-false))));
@@ -18,16 +18,16 @@ returns-in-default t c =
       same = refl;
     }
 
-pub put-all-requires : goal.put-all-requires
-put-all-requires t c =
+pub put_all-requires : goal.put_all-requires
+put_all-requires t c =
     let d = c.args.draft.now in let e = c.put.new.self in
     (search (rules, ltb-true, ltb-false), put_fits draft_cause c.args.mark c.args.body.now (omega (arith, ltb-true, ltb-false)) (memory_of d) (memory_of e) (changes d) (changes e) c.put.result c.requires c.put.ensures.answer c.put.ensures.changes c.put.ensures.memory)
 
 pub returns : goal.returns
 returns t c =
-    let d = c.args.draft.now in let e = c.put.new.self in let f = c.put-all.new.draft in
+    let d = c.args.draft.now in let e = c.put.new.self in let f = c.put_all.new.draft in
     record {
-      changes = put_all_changes draft_cause c.args.mark c.args.body.now (omega (arith, ltb-true, ltb-false)) (memory_of d) (memory_of e) (changes d) (changes e) c.put.result c.requires c.put.ensures.answer c.put.ensures.changes c.put.ensures.memory (changes f) c.put-all.ensures.changes;
-      memory = put_all_memory draft_cause c.args.mark c.args.body.now (omega (arith, ltb-true, ltb-false)) (memory_of d) (memory_of e) (changes d) (changes e) c.put.result c.requires c.put.ensures.answer c.put.ensures.changes c.put.ensures.memory (changes f) (memory_of f) c.put-all.ensures.changes c.put-all.ensures.memory;
-      same = c.put-all.ensures.same ∙ c.put.ensures.same;
+      changes = put_all_changes draft_cause c.args.mark c.args.body.now (omega (arith, ltb-true, ltb-false)) (memory_of d) (memory_of e) (changes d) (changes e) c.put.result c.requires c.put.ensures.answer c.put.ensures.changes c.put.ensures.memory (changes f) c.put_all.ensures.changes;
+      memory = put_all_memory draft_cause c.args.mark c.args.body.now (omega (arith, ltb-true, ltb-false)) (memory_of d) (memory_of e) (changes d) (changes e) c.put.result c.requires c.put.ensures.answer c.put.ensures.changes c.put.ensures.memory (changes f) (memory_of f) c.put_all.ensures.changes c.put_all.ensures.memory;
+      same = c.put_all.ensures.same ∙ c.put.ensures.same;
     }

@@ -18,22 +18,22 @@ pub returns-then-file-first : goal.returns-then-file-first
 unfolding layout_of
 returns-then-file-first c = let o = c.if-not-opens.ensures in grind (arith, nat_tests)
 
-pub returns-in-err-layout : goal.returns-in-err-layout
+pub returns-in_err-layout : goal.returns-in_err-layout
 unfolding ended
-returns-in-err-layout c =
-    let p = err_from_is_err_and c.from-residual.result c.from-residual.ensures.1 in
-    rw (p.1, p.2) (record { is = sym (layout_past c.args.file.now _ c.if-not-opens.ensures (omega arith) (omega arith) c.in-err-layout.ensures.is); sized = tt })
+returns-in_err-layout c =
+    let p = err_from_is_err_and c.from_residual.result c.from_residual.ensures.1 in
+    rw (p.1, p.2) (record { is = sym (layout_past c.args.file.now _ c.if-not-opens.ensures (omega arith) (omega arith) c.in_err-layout.ensures.is); sized = tt })
 
 pub returns-then-file-end : goal.returns-then-file-end
 unfolding ended
 returns-then-file-end c = record {
-  is = sym (layout_past c.args.file.now _ c.if-not-opens.ensures (omega arith) (omega arith) c.in-ok-layout.ensures.is ∙ cond-false _ _ _ (ne_eqb _ _ (λ e. c.if-file-end.true (e ∙ sym c.end.ensures))));
+  is = sym (layout_past c.args.file.now _ c.if-not-opens.ensures (omega arith) (omega arith) c.in_ok-layout.ensures.is ∙ cond-false _ _ _ (ne_eqb _ _ (λ e. c.if-file-end.true (e ∙ sym c.end.ensures))));
   sized = tt;
 }
 
 pub returns : goal.returns
 unfolding ended
 returns c = record {
-  is = sym (layout_past c.args.file.now _ c.if-not-opens.ensures (omega arith) (omega arith) c.in-ok-layout.ensures.is ∙ cond-true _ _ _ (eq-eqb _ _ (c.if-file-end.false ∙ c.end.ensures)));
-  sized = (c.in-ok-layout.ensures.short, sym (c.if-file-end.false ∙ c.end.ensures));
+  is = sym (layout_past c.args.file.now _ c.if-not-opens.ensures (omega arith) (omega arith) c.in_ok-layout.ensures.is ∙ cond-true _ _ _ (eq-eqb _ _ (c.if-file-end.false ∙ c.end.ensures)));
+  sized = (c.in_ok-layout.ensures.short, sym (c.if-file-end.false ∙ c.end.ensures));
 }

@@ -3,8 +3,8 @@ use Rattle.std.proofs.lemmas.List.{places}
 use Rattle.weekly.proofs.Marked.{bytes_at_end, bytes_at_own, bytes_at_other}
 use Rattle.weekly.proofs.pieces.+size.Goals as goal
 
-pub returns-in-default : goal.returns-in-default
-returns-in-default t c = record { is = sym (ap length (bytes_at_end c.args.mark c.args.rows.now (omega (arith, ltb-true, ltb-false)))); few = omega arith }
+pub returns-in_default : goal.returns-in_default
+returns-in_default t c = record { is = sym (ap length (bytes_at_end c.args.mark c.args.rows.now (omega (arith, ltb-true, ltb-false)))); few = omega arith }
 
 pub returns-then-c-mark : goal.returns-then-c-mark
 returns-then-c-mark t c =

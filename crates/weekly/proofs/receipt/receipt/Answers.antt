@@ -4,32 +4,32 @@ use Rattle.batch.specs.Drafts.{changes, memory_of, closed_changes}
 use Rattle.weekly.proofs.Receipts.{read_whole, receipt_refused, receipt_short, receipt_taken, receipt_bytes}
 use Rattle.weekly.proofs.receipt.receipt.Goals as goal
 
-pub returns-in-err-reading : goal.returns-in-err-reading
-returns-in-err-reading c =
-    let p = err_from_is_err_and c.from-residual.result c.from-residual.ensures.1 in
+pub returns-in_err-reading : goal.returns-in_err-reading
+returns-in_err-reading c =
+    let p = err_from_is_err_and c.from_residual.result c.from_residual.ensures.1 in
     let d = c.new-draft.result in
     rw (p.1, p.2) (record {
-      answer = receipt_refused c.args.file.now _ _ (read_whole c.args.file.now (changes d) (memory_of d) _ c.new-draft.ensures.changes (ap length c.new-draft.ensures.memory) c.in-err-reading.ensures.answer);
+      answer = receipt_refused c.args.file.now _ _ (read_whole c.args.file.now (changes d) (memory_of d) _ c.new-draft.ensures.changes (ap length c.new-draft.ensures.memory) c.in_err-reading.ensures.answer);
       after = refl;
     })
 
-pub returns-in-err-write : goal.returns-in-err-write
-returns-in-err-write c =
-    let p = err_from_is_err_and c.from-residual-in-err-write.result c.from-residual-in-err-write.ensures.1 in
+pub returns-in_err-write : goal.returns-in_err-write
+returns-in_err-write c =
+    let p = err_from_is_err_and c.from_residual-in_err-write.result c.from_residual-in_err-write.ensures.1 in
     let d = c.new-draft.result in
     rw (p.1, p.2) (record {
-      answer = receipt_short c.args.file.now _ c.in-ok-reading.reading (λ i. omega (arith, c.type-inv.file i))
-          (read_whole c.args.file.now (changes d) (memory_of d) _ c.new-draft.ensures.changes (ap length c.new-draft.ensures.memory) c.in-ok-reading.ensures.answer)
-          (closed_changes c.close-batch.result) c.note.result.now (c.close-batch.ensures.changes ∙ c.in-ok-reading.ensures.changes) c.note.ensures _ c.in-err-write.ensures.answer;
-      after = c.in-err-write.ensures.after;
+      answer = receipt_short c.args.file.now _ c.in_ok-reading.reading (λ i. omega (arith, c.type_inv.file i))
+          (read_whole c.args.file.now (changes d) (memory_of d) _ c.new-draft.ensures.changes (ap length c.new-draft.ensures.memory) c.in_ok-reading.ensures.answer)
+          (closed_changes c.close-batch.result) c.note.result.now (c.close-batch.ensures.changes ∙ c.in_ok-reading.ensures.changes) c.note.ensures _ c.in_err-write.ensures.answer;
+      after = c.in_err-write.ensures.after;
     })
 
 pub returns : goal.returns
 returns c =
     let d = c.new-draft.result in
-    let read = read_whole c.args.file.now (changes d) (memory_of d) _ c.new-draft.ensures.changes (ap length c.new-draft.ensures.memory) c.in-ok-reading.ensures.answer in
-    let batch = c.close-batch.ensures.changes ∙ c.in-ok-reading.ensures.changes in
+    let read = read_whole c.args.file.now (changes d) (memory_of d) _ c.new-draft.ensures.changes (ap length c.new-draft.ensures.memory) c.in_ok-reading.ensures.answer in
+    let batch = c.close-batch.ensures.changes ∙ c.in_ok-reading.ensures.changes in
     record {
-      answer = receipt_taken c.args.file.now _ c.in-ok-reading.reading (λ i. omega (arith, c.type-inv.file i)) read (closed_changes c.close-batch.result) c.note.result.now batch c.note.ensures _ c.in-ok-write.ensures.answer;
-      after = receipt_bytes c.args.file.now 0 c.in-ok-reading.reading (λ i. omega (arith, c.type-inv.file i)) read (closed_changes c.close-batch.result) c.note.result.now batch c.note.ensures c.args.out.now _ c.in-ok-write.ensures.after;
+      answer = receipt_taken c.args.file.now _ c.in_ok-reading.reading (λ i. omega (arith, c.type_inv.file i)) read (closed_changes c.close-batch.result) c.note.result.now batch c.note.ensures _ c.in_ok-write.ensures.answer;
+      after = receipt_bytes c.args.file.now 0 c.in_ok-reading.reading (λ i. omega (arith, c.type_inv.file i)) read (closed_changes c.close-batch.result) c.note.result.now batch c.note.ensures c.args.out.now _ c.in_ok-write.ensures.after;
     }

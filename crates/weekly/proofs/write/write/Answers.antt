@@ -20,12 +20,12 @@ long c = file_end _ c.changes-rows.result.now c.args.note.now c.plan-layout.resu
 pub returns-then-out-length : goal.returns-then-out-length
 returns-then-out-length c =
     let e = long (goal.at.returns-then-out-length c).After-end-length in
-    record { answer = sym (write_short (closed_changes c.args.batch.now) c.args.note.now (length c.args.out.now) (omega arith) c.in-default.ensures (omega (arith, e))); after = refl }
+    record { answer = sym (write_short (closed_changes c.args.batch.now) c.args.note.now (length c.args.out.now) (omega arith) c.in_default.ensures (omega (arith, e))); after = refl }
 
 pub returns : goal.returns
 returns c =
     let e = long (goal.at.returns c).After-end-length in
     record {
-      answer = sym (write_done (closed_changes c.args.batch.now) c.args.note.now (length c.args.out.now) c.end-length.result (omega arith) c.in-default.ensures (omega arith) e);
-      after = over_from (closed_changes c.args.batch.now) c.args.note.now c.args.out.now c.put-file.new.out _ (subst (λ (z : List Change). Wrote 0 (file_of z c.args.note.now) c.args.out.now c.put-file.new.out (bodies_end c.plan-layout.result)) c.changes-rows.ensures c.put-file.ensures);
+      answer = sym (write_done (closed_changes c.args.batch.now) c.args.note.now (length c.args.out.now) c.end-length.result (omega arith) c.in_default.ensures (omega arith) e);
+      after = over_from (closed_changes c.args.batch.now) c.args.note.now c.args.out.now c.put_file.new.out _ (subst (λ (z : List Change). Wrote 0 (file_of z c.args.note.now) c.args.out.now c.put_file.new.out (bodies_end c.plan-layout.result)) c.changes-rows.ensures c.put_file.ensures);
     }

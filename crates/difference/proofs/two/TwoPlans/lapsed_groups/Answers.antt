@@ -11,5 +11,5 @@ returns c =
     let t = c.args.self.now in
     let bs = plan_rows t.before in
     let rs = plan_rows t.after in
-    let W : List Group → Type 0 = λ l. Written l c.args.table.now c.write-new.new.table c.args.from c.args.limit c.write-new.result in
-    subst W (ap (new_groups_of rs bs) t.doors ∙ sym (lapsed_new bs rs (plan_doors t.before))) c.write-new.ensures
+    let W : List Group → Type 0 = λ l. Written l c.args.table.now c.write_new.new.table c.args.from c.args.limit c.write_new.result in
+    subst W (ap (new_groups_of rs bs) t.doors ∙ sym (lapsed_new bs rs (plan_doors t.before))) c.write_new.ensures

@@ -10,14 +10,15 @@ first_of n k rows e l = ap (λ (m : ℕ). take 64 (take m rows)) e ∙ shorter k
     shorter : (k : ℕ) (rows : List ℕ) → k ≤ 64 → take 64 (take k rows) ≡ take k rows
     shorter k rows l = take_all 64 (take k rows) (omega (arith, length-take k rows))
 
-pub invariant-of-result : goal.invariant-of-result
-invariant-of-result c =
+pub invariant_of-result : goal.invariant_of-result
+invariant_of-result c =
     let b = c.args.before.now in
     let a = c.args.after.now in
-    let n = c.min-keys.result - 0 in (
-      omega (arith, ap (length {A = ℕ}) c.new.ensures.rows, ap (length {A = ℕ}) c.new-2.ensures.rows, length-take 64 (take n b), length-take 64 (take n a), length-take n b, length-take n a),
-      (c.new-2.ensures.doors ∙ sym c.new.ensures.doors, tt),
-    )
+    let n = c.min-keys.result - 0 in
+    record {
+      keys = omega (arith, ap (length {A = ℕ}) c.new.ensures.rows, ap (length {A = ℕ}) c.new-2.ensures.rows, length-take 64 (take n b), length-take 64 (take n a), length-take n b, length-take n a);
+      doors = c.new-2.ensures.doors ∙ sym c.new.ensures.doors;
+    }
 
 pub returns : goal.returns
 returns c =

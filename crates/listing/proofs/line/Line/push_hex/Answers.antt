@@ -11,4 +11,4 @@ push-requires c =
 
 pub loop-place-preserved : goal.loop-place-preserved
 loop-place-preserved c =
-    hex_more (line_bytes c.loop-place.self) (line_bytes c.args.self.now ++ hexadecimal c.args.mask) (c.loop-place.place - 1) c.args.mask (omega arith) c.loop-place.invariant c.hex-digit.ensures c.push.ensures
+    hex_more (line_bytes c.loop-place.self) (line_bytes c.args.self.now ++ hexadecimal c.args.mask) (c.loop-place.place - 1) c.args.mask (omega arith) c.loop-place.invariant c.hex_digit.ensures c.push.ensures
