@@ -1,11 +1,11 @@
 -- A change put into an ascending draft: its place by pair is its place among the changes.
-use Rattle.std.proofs.Common.{◌≡◌, ℕ, zero, suc, ◌+◌, ◌-◌, ◌<◌, ◌≤◌, Bool, true, false, cond, not, ◌&&◌, ◌||◌, eqb, ltb, leb, ◌⊎◌, List, [], ◌∷◌, ◌++◌, length, get_or, take, drop, Ok, Err, Result, sym, refl, ap, ◌∙◌, subst, inl, inr, ⊎_elim, arith, rules}
+use Rattle.std.proofs.Common.{◌≡◌, ℕ, ◌+◌, ◌-◌, ◌<◌, ◌≤◌, Bool, true, false, cond, ◌&&◌, ◌||◌, ltb, leb, ◌⊎◌, List, [], ◌∷◌, ◌++◌, length, get_or, take, drop, Ok, Err, Result, sym, refl, ap, ◌∙◌, subst, inl, inr, ⊎_elim, arith, rules}
 use Rattle.std.specs.List.{insert}
-use Rattle.std.proofs.lemmas.List.{places, get_or-take, get_or_default, length-take-le, take_at, take-append-drop}
+use Rattle.std.proofs.lemmas.List.{places, get_or-take, length-take-le, take_at, take-append-drop}
 use Rattle.std.proofs.lemmas.Bool.{cases_Bool, cases_order, cond-true, cond-false, lt-ltb, le-ltb}
 use Rattle.std.proofs.lemmas.Bool.Decides.{nat_tests}
 use Rattle.pairs.specs.declared.change.Change.{Change}
-use Rattle.pairs.specs.Orders.{then_by, change_before, before_by_pair}
+use Rattle.pairs.specs.Orders.{change_before, before_by_pair}
 use Rattle.pairs.specs.Chains.{change_chain, by_pair_chain, change_irreflexive, by_pair_irreflexive, by_pair_before}
 use Rattle.table.specs.Rows.{Ascends, GoesAt, with_row}
 use Rattle.table.specs.Sets.{tied, has, rank, one, placed, entered}

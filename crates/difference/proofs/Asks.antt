@@ -1,15 +1,15 @@
 -- What asks whether a group was found before: the keys or doors that can touch it, one by one.
-use Rattle.std.proofs.Common.{◌≡◌, ℕ, ◌+◌, ◌-◌, ◌^◌, ◌<◌, ◌≤◌, ◌⊎◌, List, length, get_or, sym, ap, ◌∙◌, subst, inl, inr, ⊎_elim, arith}
+use Rattle.std.proofs.Common.{◌≡◌, ℕ, ◌+◌, ◌-◌, ◌^◌, ◌<◌, ◌≤◌, List, length, get_or, sym, subst, ⊎_elim, arith}
 use lib.Bits.{bit_and, bit_or}
 use Rattle.std.proofs.lemmas.Bool.{cases_eq}
-use Rattle.masks.specs.Masks.{bit, Has, first_set}
-use Rattle.masks.proofs.Bitlaws.{and_has, below_has, has_and, has_more, has_more_same, has_or}
+use Rattle.masks.specs.Masks.{Has, first_set}
+use Rattle.masks.proofs.Bitlaws.{and_has, below_has, has_and, has_more, has_more_same}
 use Rattle.masks.proofs.Joins.{first_has, first_only}
 use Rattle.groups.specs.declared.group.Group.{Group}
 use Rattle.groups.specs.Plans.{Opens, IsGroup}
 use Rattle.search.specs.Nodes.{Shares}
 use Rattle.search.proofs.Peels.{Peeled}
-use Rattle.difference.specs.Changes.{ColumnTouches, KeyTouches, Losing, OnlyIn, Shared}
+use Rattle.difference.specs.Changes.{ColumnTouches, KeyTouches, Losing, Shared}
 use Rattle.difference.proofs.Marks.{and_lt, no_has, only_is}
 
 -- ---- the rows that lost something

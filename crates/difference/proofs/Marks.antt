@@ -1,13 +1,12 @@
 -- What a has and b lacks, and what rows share, as masks.
-use Rattle.std.proofs.Common.{◌≡◌, ℕ, ◌+◌, ◌-◌, ◌^◌, ◌<◌, ◌≤◌, min, Bool, not, eqb, ◌⊎◌, List, length, get_or, MatchBool, sym, ap, ◌∙◌, subst, inl, inr, ⊎_elim, arith}
+use Rattle.std.proofs.Common.{◌≡◌, ℕ, ◌-◌, ◌^◌, ◌<◌, ◌≤◌, Bool, not, eqb, MatchBool, sym, ap, subst, ⊎_elim, arith}
 use lib.Bits.{bit_and, bit_or}
 use lib.Count.{count_trailing_zeros}
 use Rattle.std.proofs.lemmas.Bool.{cases_eq, cases_Bool, eqb-true, eqb-false, ne_eqb}
 use Rattle.masks.specs.Masks.{bit, Has, first_set}
 use Rattle.masks.proofs.Bitlaws.{bit_lt, bit_not, bit_zero, bit_pow_other, has_and, and_has, or_has, below_has, has_below, lowest_has}
 use Rattle.masks.proofs.Joins.{first_has, first_only}
-use Rattle.groups.specs.Plans.{Opens}
-use Rattle.difference.specs.Changes.{OnlyIn, Shared, Lacks}
+use Rattle.difference.specs.Changes.{OnlyIn, Lacks}
 
 -- `a & !b`
 pub minus_has : (a b i : ℕ) → i < 64 → b < 2 ^ 64 → Has (bit_and a (2 ^ 64 - 1 - b)) i → Has a i × (Has b i → ⊥)

@@ -1,5 +1,5 @@
 -- The groups of a plan as a list, those that come up and lapse from one plan to the next, and a batch carried out.
-use Rattle.std.specs.Prelude.{ℕ, zero, suc, ◌-◌, ◌^◌, Bool, true, false, cond, not, ◌&&◌, ◌||◌, List, [], ◌∷◌, map, length, set, filter, ◌==◌, slice_index, slice_set}
+use Rattle.std.specs.Prelude.{ℕ, zero, suc, ◌-◌, ◌^◌, Bool, true, false, cond, not, ◌&&◌, ◌||◌, List, [], ◌∷◌, map, length, filter, ◌==◌, slice_index, slice_set}
 use Rattle.std.specs.List.{range_with_len}
 use Rattle.masks.specs.Masks.{has_bit, is_within, joined, parted}
 use Rattle.pairs.specs.declared.change.Change.{Change}

@@ -1,9 +1,9 @@
 -- A table in which one pair more or one less is written.
 use Rattle.std.proofs.Common.{◌≡◌, ℕ, zero, suc, ◌+◌, ◌-◌, ◌*◌, ◌^◌, ◌<◌, ◌≤◌, Bool, true, false, cond, ◌&&◌, eqb, List, [], ◌∷◌, length, get_or, take, set, replicate, sym, refl, ap, ◌∙◌, subst, ⊎_elim, arith, pow_pos}
 use lib.Count.{ones, ones_in}
-use Rattle.std.proofs.lemmas.List.{get_or-take, get_or_past, get_or-set_same, get_or-set_other, length-set, length-take, length-take-le, take-replicate}
+use Rattle.std.proofs.lemmas.List.{get_or-take, get_or_past, get_or-set_same, get_or-set_other, length-set, length-take, take-replicate}
 use Rattle.std.proofs.lemmas.Bool.{cases_eq, cases_lt, cond-true, cond-false, eq-eqb, ne_eqb, and_from, and_left, and_right}
-use Rattle.masks.specs.Masks.{bit, Has, joined, parted}
+use Rattle.masks.specs.Masks.{bit, joined, parted}
 use Rattle.masks.proofs.Bitlaws.{bit_zero, below_has, none_has}
 use Rattle.masks.proofs.Joins.{true_has, false_lacks, joined_same, joined_other, joined_lt, ones_joined, parted_same, parted_other, parted_le, ones_parted}
 use Rattle.groups.specs.Lists.{addition, removal, permitted, withdrawn}

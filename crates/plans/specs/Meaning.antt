@@ -1,9 +1,9 @@
 -- What a plan means: how many keys and doors it has, and for each key the set of the doors that it opens; what its calls answer.
-use Rattle.std.specs.Prelude.{◌≡◌, ℕ, ◌+◌, ◌^◌, ◌<◌, ◌≤◌, Bool, cond, not, ◌&&◌, List, [], ◌∷◌, length, is_ok, Ok, Err, Result, ◌==◌, count_ones, nat_lt, slice_index}
+use Rattle.std.specs.Prelude.{◌≡◌, ℕ, ◌+◌, ◌^◌, ◌<◌, ◌≤◌, Bool, cond, not, ◌&&◌, List, [], ◌∷◌, length, Ok, Err, Result, ◌==◌, count_ones, nat_lt, slice_index}
 use Rattle.faults.specs.declared.cause.Cause.{Cause}
 use Rattle.faults.specs.Causes.{bare}
 use Rattle.masks.specs.Masks.{has_bit}
-use Rattle.groups.specs.Lists.{columns, addition, removal, permitted, withdrawn}
+use Rattle.groups.specs.Lists.{columns}
 
 -- sizes of 1 to 64, a row for each key, and each row a set of doors of the plan
 pub record Sound (keys doors : ℕ) (rows : List ℕ) : Type 0 where

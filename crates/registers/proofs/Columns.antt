@@ -1,12 +1,12 @@
 -- The two columns of a journal's rows: a write to one of them leaves the other.
-use Rattle.std.proofs.Common.{◌≡◌, ℕ, ◌+◌, ◌-◌, ◌<◌, ◌≤◌, Bool, false, List, map, length, get_or, set, sym, refl, ap, ◌∙◌, subst, arith}
+use Rattle.std.proofs.Common.{◌≡◌, ℕ, ◌+◌, ◌-◌, ◌<◌, ◌≤◌, false, List, map, length, get_or, set, sym, refl, ap, ◌∙◌, subst, arith}
 use Rattle.std.proofs.lemmas.List.{places, map-set, get_or-map, set-get_or, get_or-set_same, get_or_default, length-map}
 use Rattle.std.proofs.lemmas.Bool.{cases_eq}
 use Rattle.groups.specs.declared.group.Group.{Group}
 use Rattle.table.specs.Rows.{with_row, without_row}
 use Rattle.table.proofs.Shifts.{put_is, out_is}
 use Rattle.registers.specs.declared.line.Line.{Line}
-use Rattle.registers.specs.Lines.{call, calls, beside, column}
+use Rattle.registers.specs.Lines.{beside, column}
 
 -- a row rewritten with the same value in one column leaves that column
 pub kept : {X : Type 0} (f : Line → X) (ls : List Line) (i : ℕ) (v d : Line) → i < length ls → f v ≡ f (get_or ls i d) → map f (set ls i v) ≡ map f ls

@@ -9,7 +9,7 @@ use Rattle.groups.proofs.Orders.{irreflexive, transitive, total}
 use Rattle.table.specs.Sets.{tied, has, entered, struck, all_entered, all_struck}
 use Rattle.table.proofs.Ups.{Up, up_entered, has_entered, tied_same}
 use Rattle.table.proofs.Members.{same_up}
-use Rattle.registers.specs.Meaning.{enter_answer, strike_answer, spare_struck, entered_run, struck_run}
+use Rattle.registers.specs.Meaning.{spare_struck, entered_run, struck_run}
 
 -- a record that is there is entered to no effect, and one that is not is struck to none
 entered_same : (x : Group) (ys : List Group) → Up group_before ys → has group_before x ys ≡ true → entered group_before x ys ≡ ys

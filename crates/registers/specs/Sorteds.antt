@@ -1,6 +1,6 @@
 -- What a sorted register means, that its records ascend, and that they and its spare places are few.
-use Rattle.std.specs.Prelude.{◌≡◌, ℕ, ◌+◌, ◌-◌, ◌<◌, ◌≤◌, List, length, get_or, take}
-use Rattle.std.proofs.Common.{ap, ◌∙◌, arith}
+use Rattle.std.specs.Prelude.{ℕ, ◌+◌, ◌-◌, ◌<◌, ◌≤◌, List, length, take}
+use Rattle.std.proofs.Common.{arith}
 use Rattle.std.proofs.lemmas.List.{get_or-take, length-take}
 use Rattle.groups.specs.declared.group.Group.{Group}
 use Rattle.groups.specs.Orders.{group_before}

@@ -1,20 +1,15 @@
 -- The columns of a plan, written one after the other.
-use Rattle.std.proofs.Common.{◌≡◌, ℕ, suc, ◌+◌, ◌*◌, ◌/◌, ◌%◌, ◌^◌, ◌<◌, ◌≤◌, min, Bool, cond, ◌⊎◌, List, [], ◌∷◌, ◌++◌, length, get_or, take, drop, set, sym, refl, ap, ◌∙◌, subst, ⊎_elim, append_assoc, append-nil, arith}
+use Rattle.std.proofs.Common.{◌≡◌, ℕ, suc, ◌+◌, ◌*◌, ◌/◌, ◌%◌, ◌^◌, ◌<◌, ◌≤◌, min, Bool, cond, List, [], ◌∷◌, ◌++◌, length, get_or, take, drop, set, sym, refl, ap, ◌∙◌, ⊎_elim, append_assoc, arith}
 use lib.Bits.{bit_and, bit_or, or_zero_r}
 use Rattle.std.proofs.lemmas.Nat.{one_shl}
-use Rattle.std.proofs.lemmas.List.FromFn.{length-map-range_with_len, get_or-map-range_with_len, map-range_with_len_more, fill_by_all}
-use Rattle.std.proofs.lemmas.List.{set_at, drop_more, drop_all, take_all, get_or-take, get_or_past, get_or_append_left, length-take}
+use Rattle.std.proofs.lemmas.List.FromFn.{length-map-range_with_len, map-range_with_len_more}
+use Rattle.std.proofs.lemmas.List.{set_at, drop_more, drop_all, take_all}
 use Rattle.std.proofs.lemmas.Bool.{cases_lt, cond-true, cond-false}
-use Rattle.masks.specs.Masks.{bit, Has, has_bit, joined}
+use Rattle.masks.specs.Masks.{bit, has_bit, joined}
 use Rattle.masks.proofs.Bitlaws.{bit_test, bit_cases}
-use Rattle.masks.proofs.Joins.{has_true, has_false, true_has, or_joined}
+use Rattle.masks.proofs.Joins.{has_true, has_false, or_joined}
 use Rattle.groups.specs.Lists.{passing, columns}
-use Rattle.groups.specs.Plans.{Opens}
-use Rattle.groups.proofs.Closures.{has_passing, passing_has}
-use Rattle.groups.proofs.Turns.{column_at, columns_turned}
-use Rattle.search.specs.Nodes.{Reads}
-use Rattle.search.specs.Parts.{column_of, padded_rows, turned_into}
-use Rattle.search.proofs.Peels.{has_zero}
+use Rattle.search.specs.Parts.{column_of, turned_into}
 
 -- ---- the column of a door, key by key
 module _ (rows : List ℕ) (d k : ℕ) where

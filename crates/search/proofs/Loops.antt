@@ -1,5 +1,5 @@
 -- The loop over the keys that are left: what it has written, one turn, its end, and where the table is full.
-use Rattle.std.proofs.Common.{◌≡◌, ℕ, ◌+◌, ◌-◌, ◌^◌, ◌<◌, ◌≤◌, List, [], ◌∷◌, ◌++◌, length, get_or, Some, None, sym, ap, ◌∙◌, append_assoc, append-nil, arith}
+use Rattle.std.proofs.Common.{◌≡◌, ℕ, ◌+◌, ◌^◌, ◌<◌, ◌≤◌, List, [], ◌∷◌, ◌++◌, length, get_or, Some, None, sym, ap, ◌∙◌, append_assoc, append-nil, arith}
 use lib.Bits.{bit_and, bit_or, or_zero_r}
 use Rattle.masks.proofs.Bitlaws.{has_below}
 use Rattle.groups.specs.declared.group.Group.{Group}

@@ -1,9 +1,9 @@
 -- What the search lists at each of its states.
-use Rattle.std.proofs.Common.{◌≡◌, ℕ, ◌^◌, ◌<◌, true, not, ◌&&◌, eqb, List, length, get_or, subst, arith}
+use Rattle.std.proofs.Common.{◌≡◌, ℕ, ◌^◌, ◌<◌, true, ◌&&◌, eqb, List, length, get_or, subst, arith}
 use lib.Bits.{bit_and}
 use lib.Count.{count_trailing_zeros}
 use Rattle.std.proofs.lemmas.Bool.{and_parts, and_from, not-true, not_from_false, eqb-true, eqb-false, eq-eqb, ne_eqb}
-use Rattle.masks.specs.Masks.{bit, Has, Within, is_within}
+use Rattle.masks.specs.Masks.{Has, Within, is_within}
 use Rattle.masks.proofs.Bitlaws.{has_and, and_has, none_has, below_has, lowest_has}
 use Rattle.masks.proofs.Joins.{test_within, within_passes}
 use Rattle.groups.specs.declared.group.Group.{Group}

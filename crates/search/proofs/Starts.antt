@@ -1,5 +1,5 @@
 -- Where a search begins: all keys that open the doors that the keys of `base` share.
-use Rattle.std.proofs.Common.{◌≡◌, ℕ, ◌-◌, ◌^◌, ◌<◌, ◌≤◌, ◌⊎◌, List, [], length, subst, inl, inr, ⊎_elim, arith}
+use Rattle.std.proofs.Common.{◌≡◌, ℕ, ◌-◌, ◌^◌, ◌<◌, ◌≤◌, List, [], length, subst, inl, inr, ⊎_elim, arith}
 use lib.Bits.{bit_and, bit_or, or_lt}
 use Rattle.std.proofs.lemmas.Bool.{cases_eq}
 use Rattle.masks.specs.Masks.{bit, Has, Within, first_set}

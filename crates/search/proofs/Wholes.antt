@@ -1,5 +1,5 @@
 -- A plan and the same plan with 64 rows have the same groups, and what the search lists of the one is what is wanted of the other.
-use Rattle.std.proofs.Common.{◌≡◌, ℕ, ◌-◌, ◌^◌, ◌<◌, ◌≤◌, Bool, true, false, ◌&&◌, eqb, ◌⊎◌, List, length, take, filter, sym, refl, ap, ◌∙◌, subst, ⊎_elim, arith, length-take, pow_mono}
+use Rattle.std.proofs.Common.{◌≡◌, ℕ, ◌-◌, ◌^◌, ◌<◌, ◌≤◌, Bool, true, false, ◌&&◌, eqb, List, length, take, filter, sym, refl, ap, ◌∙◌, subst, ⊎_elim, arith, length-take, pow_mono}
 use lib.Bits.{bit_and, and_zero_l}
 use lib.Count.{count_trailing_zeros}
 use Rattle.std.proofs.lemmas.List.{get_or-replicate}

@@ -1,5 +1,5 @@
 -- Several records entered or struck in their order: what is there then, and in which order.
-use Rattle.std.proofs.Common.{◌≡◌, Bool, true, false, cond, not, ◌&&◌, ◌||◌, List, [], ◌∷◌, ◌++◌, sym, refl, ap, ◌∙◌}
+use Rattle.std.proofs.Common.{◌≡◌, Bool, true, false, not, ◌&&◌, ◌||◌, List, [], ◌∷◌, ◌++◌, sym, refl, ap, ◌∙◌}
 use Rattle.table.specs.Sets.{tied, has, entered, struck, all_entered, all_struck, sorted}
 use Rattle.table.proofs.Ups.{Up, up_entered, up_struck, has_entered, has_struck}
 use Rattle.table.proofs.Members.{same_up}

@@ -1,11 +1,11 @@
 -- Where a record stands or goes among ascending rows, by how many are before it.
-use Rattle.std.proofs.Common.{◌≡◌, ℕ, zero, suc, ◌+◌, ◌<◌, ◌≤◌, min, Bool, true, false, cond, not, ◌&&◌, ◌||◌, ◌⊎◌, List, [], ◌∷◌, length, get_or, take, Some, Ok, Err, Result, sym, refl, ap, ◌∙◌, subst, inl, inr, ⊎_elim, arith}
-use Rattle.std.proofs.lemmas.List.{get_or-take, get_or_default, length-take-le, take_all}
+use Rattle.std.proofs.Common.{◌≡◌, ℕ, zero, suc, ◌+◌, ◌<◌, ◌≤◌, min, Bool, true, false, cond, ◌||◌, List, [], ◌∷◌, length, get_or, take, Some, Ok, Err, sym, refl, ap, ◌∙◌, ⊎_elim, arith}
+use Rattle.std.proofs.lemmas.List.{get_or-take, length-take-le, take_all}
 use Rattle.std.proofs.lemmas.Bool.{cases_Bool, cases_lt, cond-true, cond-false}
 use Rattle.table.specs.Rows.{Ascends, FoundAt, GoesAt}
 use Rattle.table.specs.Sets.{tied, has, rank, one, placed}
 use Rattle.table.proofs.Shifts.{far, low_more, high_more}
-use Rattle.table.proofs.SetLaws.{asym, has_at, found_has, goes_lacks}
+use Rattle.table.proofs.SetLaws.{asym, found_has, goes_lacks}
 use Rattle.table.proofs.Ups.{Below, Up, ascends_up, rank_nth}
 use Rattle.std.specs.List.{slice_get}
 

@@ -1,8 +1,8 @@
 -- A list whose rows from `at` to `n` were moved up by one, and then `x` was written at `at`.
-use Rattle.std.proofs.Common.{◌≡◌, ℕ, zero, suc, ◌+◌, ◌-◌, ◌<◌, ◌≤◌, Bool, true, false, List, [], ◌∷◌, ◌++◌, length, get_or, take, drop, set, sym, refl, ap, ◌∙◌, inl, inr, ⊎_elim, arith, rules}
+use Rattle.std.proofs.Common.{◌≡◌, ℕ, zero, suc, ◌+◌, ◌-◌, ◌<◌, ◌≤◌, Bool, true, List, ◌++◌, length, get_or, take, drop, set, arith, rules}
 use Rattle.std.specs.List.{insert, remove}
-use Rattle.std.proofs.lemmas.List.{places, get_or_read, same_lists, get_or-set_same, get_or-set_other}
-use Rattle.table.specs.Rows.{Ascends, FoundAt, GoesAt, with_row}
+use Rattle.std.proofs.lemmas.List.{places, get_or_read, same_lists, get_or-set_same}
+use Rattle.table.specs.Rows.{Ascends, GoesAt, with_row}
 use Rattle.std.proofs.lemmas.Bool.{cases_eq}
 
 pub put_is : {X : Type 0} (xs ys : List X) (n at : ℕ) (x : X) → at ≤ n → n < length xs → length ys ≡ length xs

@@ -1,5 +1,5 @@
 -- A set of records as its ascending list, in an order that is given as a test.
-use Rattle.std.specs.Prelude.{ℕ, ◌+◌, Bool, true, false, cond, not, ◌&&◌, ◌||◌, List, [], ◌∷◌, Ok, Err, Result}
+use Rattle.std.specs.Prelude.{ℕ, ◌+◌, Bool, false, cond, not, ◌&&◌, ◌||◌, List, [], ◌∷◌, Ok, Err, Result}
 
 -- neither is before the other: in a total order they are the same record
 abbrev pub tied : {X : Type 0} → (X → X → Bool) → X → X → Bool

@@ -1,18 +1,16 @@
 -- A draft with room takes the changes of a file without a fault, one after the other, and they are a good batch.
-use Rattle.std.proofs.Common.{◌≡◌, ℕ, suc, ◌+◌, ◌*◌, ◌<◌, ◌≤◌, Bool, true, false, cond, not, ◌&&◌, ◌||◌, eqb, ltb, List, [], ◌∷◌, ◌++◌, length, get_or, Ok, Err, Result, sym, refl, ap, ◌∙◌, subst, ⊎_elim, arith}
+use Rattle.std.proofs.Common.{◌≡◌, ℕ, ◌+◌, ◌<◌, ◌≤◌, Bool, true, false, cond, ◌&&◌, ◌||◌, eqb, ltb, List, [], ◌∷◌, ◌++◌, length, Ok, sym, refl, ◌∙◌, arith}
 use Rattle.std.proofs.lemmas.List.{length-append}
 use Rattle.std.proofs.lemmas.Bool.{cases_Bool, cond-true, cond-false, cond_both, lt-ltb, ltb-true}
 use Rattle.std.proofs.lemmas.Bool.Decides.{nat_tests}
-use Rattle.faults.specs.declared.cause.Cause.{Cause}
-use Rattle.faults.specs.Causes.{bare, along}
 use Rattle.pairs.specs.declared.change.Change.{Change}
 use Rattle.pairs.specs.Orders.{change_before, before_by_pair}
 use Rattle.pairs.specs.Chains.{change_irreflexive, change_chain, change_total, by_pair_chain}
-use Rattle.table.specs.Sets.{tied, has, rank, entered, all_entered}
+use Rattle.table.specs.Sets.{tied, has, entered, all_entered}
 use Rattle.table.proofs.Ups.{Below, Up, length_entered}
 use Rattle.batch.specs.Changes.{in_range, put_answer}
 use Rattle.batch.proofs.Puts.{untied, new_lacks}
-use Rattle.weekly.specs.Body.{and_then, pair_number, pair_ok, pairs_fault, apart_fault, both_fault}
+use Rattle.weekly.specs.Body.{pair_number, pair_ok, pairs_fault, apart_fault, both_fault}
 use Rattle.weekly.specs.Marks.{marked, TakenAll}
 use Rattle.weekly.proofs.Goods.{cond_ok, cond_not, then_ok}
 

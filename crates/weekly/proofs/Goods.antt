@@ -1,12 +1,8 @@
 -- What a judgement that found no fault says.
-use Rattle.std.proofs.Common.{◌≡◌, ℕ, zero, suc, ◌+◌, ◌*◌, ◌%◌, ◌<◌, ◌≤◌, Bool, true, false, cond, not, ◌&&◌, eqb, List, [], ◌∷◌, ◌++◌, length, get_or, take, Ok, Err, Result, sym, refl, ap, ◌∙◌, subst, ⊎_elim, add-one, arith, rules}
-use Rattle.std.proofs.lemmas.List.{places, get_or-take}
-use Rattle.std.proofs.lemmas.Bool.{cases_Bool, cond-true, cond-false}
-use Rattle.std.proofs.lemmas.Bool.Decides.{nat_tests}
-use Rattle.pairs.specs.declared.change.Change.{Change}
+use Rattle.std.proofs.Common.{◌≡◌, ℕ, ◌+◌, Bool, true, false, cond, List, length, Ok, Err, Result, refl, subst, arith}
 use Rattle.faults.specs.declared.cause.Cause.{Cause}
 use Rattle.weekly.specs.declared.layout.Layout.{Layout}
-use Rattle.weekly.specs.Body.{and_then, pair_number, pair_ok, pairs_fault, text_fault, apart_fault, both_fault, bodies_fault, added_bytes, note_bytes, removed_bytes}
+use Rattle.weekly.specs.Body.{and_then, pairs_fault, text_fault, both_fault, bodies_fault, added_bytes, note_bytes, removed_bytes}
 use Rattle.weekly.specs.Head.{layout_of}
 use Rattle.weekly.specs.Read.{with_bodies, judged}
 

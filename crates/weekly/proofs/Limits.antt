@@ -1,5 +1,5 @@
 -- The limits that contents without a fault keep: pairs in twos, at most 64 of them in both bodies, a note of at most 200 bytes.
-use Rattle.std.proofs.Common.{◌≡◌, ℕ, zero, suc, ◌+◌, ◌*◌, ◌%◌, ◌<◌, ◌≤◌, true, List, length, get_or, drop, Ok, sym, refl, ap, ◌∙◌, subst, ⊎_elim, arith, rules}
+use Rattle.std.proofs.Common.{◌≡◌, ℕ, zero, suc, ◌+◌, ◌*◌, ◌%◌, ◌<◌, ◌≤◌, true, List, length, get_or, drop, Ok, sym, refl, subst, ⊎_elim, arith, rules}
 use Rattle.std.proofs.lemmas.List.{places, get_or-drop}
 use Rattle.std.proofs.lemmas.Bool.{cases_eq}
 use Rattle.std.proofs.lemmas.Bool.Decides.{nat_tests}
@@ -7,7 +7,7 @@ use Rattle.weekly.specs.declared.layout.Layout.{Layout}
 use Rattle.weekly.specs.Head.{two_bytes, is_entry_ok, with_a_body, entries, bodies_start, bodies_end, layout_of, Sized}
 use Rattle.weekly.specs.Trip.{Bytes}
 use Rattle.weekly.proofs.Shapes.{Past, add_entry, cond_good, entries_shape}
-use Rattle.weekly.proofs.Rounds.{Laid, laid_from}
+use Rattle.weekly.proofs.Rounds.{laid_from}
 
 pub record Kept (g : Layout) : Type 0 where
   pub even_added : g.added % 2 ≡ 0

@@ -1,7 +1,6 @@
 -- What a file without a fault holds, and that a draft with room takes it.
-use Rattle.std.proofs.Common.{◌≡◌, ℕ, ◌+◌, ◌*◌, ◌%◌, ◌≤◌, true, false, List, [], ◌++◌, length, Ok, Err, Result, sym, ap, ◌∙◌, subst, arith}
+use Rattle.std.proofs.Common.{◌≡◌, ℕ, ◌+◌, ◌%◌, ◌≤◌, true, false, List, [], ◌++◌, length, Ok, Err, Result, sym, ap, subst, arith}
 use Rattle.faults.specs.declared.cause.Cause.{Cause}
-use Rattle.pairs.specs.declared.change.Change.{Change}
 use Rattle.weekly.specs.declared.layout.Layout.{Layout}
 use Rattle.weekly.specs.Head.{Sized}
 use Rattle.weekly.specs.Body.{added_bytes, note_bytes, removed_bytes}

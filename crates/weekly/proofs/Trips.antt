@@ -1,11 +1,9 @@
 -- The round trip.
-use Rattle.std.proofs.Common.{◌≡◌, ℕ, zero, suc, ◌+◌, ◌*◌, ◌/◌, ◌%◌, ◌<◌, ◌≤◌, Bool, true, false, cond, ltb, List, [], ◌∷◌, ◌++◌, length, get_or, Some, None, Ok, Err, Option, Result, sym, refl, ap, ◌∙◌, subst, arith}
-use Rattle.std.proofs.lemmas.Bool.{cond_both}
+use Rattle.std.proofs.Common.{◌≡◌, ℕ, zero, suc, ◌+◌, ◌<◌, ◌≤◌, Bool, true, false, cond, ltb, List, [], ◌∷◌, ◌++◌, length, get_or, Some, None, Ok, Err, Option, Result, sym, refl, ap, ◌∙◌, subst, arith}
 use Rattle.faults.specs.declared.cause.Cause.{Cause}
 use Rattle.faults.specs.Causes.{along}
 use Rattle.pairs.specs.declared.change.Change.{Change}
-use Rattle.pairs.specs.Orders.{change_before, before_by_pair}
-use Rattle.table.specs.Sets.{all_entered}
+use Rattle.pairs.specs.Orders.{before_by_pair}
 use Rattle.table.proofs.Ups.{up_ascends}
 use Rattle.batch.specs.Changes.{in_range}
 use Rattle.weekly.specs.declared.layout.Layout.{Layout}
@@ -14,8 +12,8 @@ use Rattle.weekly.specs.Head.{Sized}
 use Rattle.weekly.specs.Body.{is_bad_byte, byte_fault, added_bytes, note_bytes, removed_bytes}
 use Rattle.weekly.specs.Marks.{bytes_of, marked, merged}
 use Rattle.weekly.specs.File.{plan_of, file_with, file_of}
-use Rattle.weekly.specs.Read.{with_room, judged, change_count, place_of_note, reading_of, read_answer, file_changes, file_note}
-use Rattle.weekly.specs.Trip.{GoodBatch, GoodNote, Bytes, Own, ReadIsWritten, reading_back, WrittenIsRead}
+use Rattle.weekly.specs.Read.{with_room, judged, change_count, place_of_note, reading_of, file_changes, file_note}
+use Rattle.weekly.specs.Trip.{GoodBatch, GoodNote, Bytes, ReadIsWritten, WrittenIsRead}
 use Rattle.weekly.proofs.Goods.{judged_ok}
 use Rattle.weekly.proofs.Fresh.{Ranged, Batch, taken_batch, pairs_up}
 use Rattle.weekly.proofs.Merges.{up_by_pair, up_change, merged_added, merged_removed, merged_back}

@@ -1,4 +1,4 @@
-use Rattle.std.proofs.Common.{ℕ, ◌-◌, ◌^◌, ◌<◌, inl, inr, ⊎_elim, arith}
+use Rattle.std.proofs.Common.{◌-◌, ◌^◌, ◌<◌, inl, inr, ⊎_elim, arith}
 use lib.Bits.{bit_and, bit_or}
 use Rattle.masks.proofs.Bitlaws.{has_or, or_has}
 use Rattle.difference.proofs.Marks.{and_lt, or_lt, lacks_has, has_lacks, no_has, some_has, when_ne}

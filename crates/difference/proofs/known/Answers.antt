@@ -1,4 +1,4 @@
-use Rattle.std.proofs.Common.{◌≡◌, ℕ, Bool, true, false, length, MatchBool, sym, subst, inl, inr, ⊎_elim, arith}
+use Rattle.std.proofs.Common.{Bool, true, false, length, MatchBool, inr, ⊎_elim, arith}
 use Rattle.masks.proofs.Bitlaws.{below_has}
 use Rattle.difference.proofs.Families.{column_to, column_from}
 use Rattle.difference.proofs.known.Goals as goal

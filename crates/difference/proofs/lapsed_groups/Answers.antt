@@ -1,4 +1,4 @@
-use Rattle.std.proofs.Common.{◌≡◌, ℕ, min, List, length, take, sym, ap, ◌∙◌, subst, arith}
+use Rattle.std.proofs.Common.{◌≡◌, ℕ, min, List, take, sym, ap, ◌∙◌, subst, arith}
 use Rattle.groups.specs.declared.group.Group.{Group}
 use Rattle.groups.specs.Lists.{new_groups_of}
 use Rattle.groups.proofs.Minus.{lapsed_new}

@@ -1,4 +1,4 @@
-use Rattle.std.proofs.Common.{◌≡◌, ◌+◌, length, sym, refl, arith}
+use Rattle.std.proofs.Common.{◌+◌, length, sym, refl, arith}
 use Rattle.masks.proofs.Bitlaws.{bit_zero}
 use Rattle.difference.proofs.Holds.{held_many}
 use Rattle.difference.proofs.Newness.{sofar_new}

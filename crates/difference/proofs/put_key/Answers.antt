@@ -1,5 +1,4 @@
-use Rattle.std.proofs.Common.{◌≡◌, ◌+◌, length, sym, refl, arith}
-use Rattle.difference.proofs.Families.{key_apart}
+use Rattle.std.proofs.Common.{◌+◌, length, sym, refl, arith}
 use Rattle.difference.proofs.Holds.{held_many}
 use Rattle.difference.proofs.Newness.{sofar_new}
 use Rattle.difference.proofs.Puts.{met_at, key_none, key_full, key_drawn, key_held}

@@ -1,9 +1,8 @@
-use Rattle.std.proofs.Common.{◌≡◌, ℕ, ◌-◌, ◌^◌, ◌<◌, ◌≤◌, length, get_or, arith}
+use Rattle.std.proofs.Common.{◌-◌, ◌^◌, get_or, arith}
 use lib.Bits.{bit_and}
 use lib.Count.{count_trailing_zeros}
-use Rattle.masks.proofs.Bitlaws.{below_has}
 use Rattle.search.proofs.Peels.{Peeled, peeled}
-use Rattle.difference.specs.Changes.{ColumnTouches, ByColumn}
+use Rattle.difference.specs.Changes.{ColumnTouches}
 use Rattle.difference.proofs.Asks.{Asking, asking_all, asking_next, asking_none, column_changed}
 use Rattle.difference.proofs.Families.{column_from_lacks, lacks_from_column}
 use Rattle.difference.proofs.Marks.{and_lt, has_lacks, lacks_has, no_has, some_has}

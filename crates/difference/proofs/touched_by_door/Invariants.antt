@@ -1,4 +1,4 @@
-use Rattle.std.proofs.Common.{ℕ, get_or}
+use Rattle.std.proofs.Common.{get_or}
 use Rattle.masks.specs.Masks.{Has}
 use Rattle.difference.specs.Changes.{Lacks}
 use Rattle.difference.proofs.Asks.{Asking}

@@ -1,4 +1,4 @@
-use Rattle.std.proofs.Common.{ℕ, length}
+use Rattle.std.proofs.Common.{length}
 use Rattle.difference.proofs.Newness.{new_sofar, sofar_new}
 use Rattle.difference.proofs.touched_groups_are_new.Goals as goal
 

@@ -1,9 +1,8 @@
-use Rattle.std.proofs.Common.{◌≡◌, ℕ, ◌^◌, ◌<◌, List, ap, ◌∙◌, ap₂, arith}
+use Rattle.std.proofs.Common.{List, ap, ◌∙◌, ap₂}
 use Rattle.groups.specs.declared.group.Group.{Group}
 use Rattle.groups.specs.Lists.{groups_of}
 use Rattle.search.specs.Fills.{fill_answer, filled_from}
-use Rattle.search.specs.Parts.{groups_between_of}
-use Rattle.search.proofs.Made.{tables_all, tables_between}
+use Rattle.search.proofs.Made.{tables_all}
 use Rattle.search.proofs.groups.Goals as goal
 
 pub returns : goal.returns

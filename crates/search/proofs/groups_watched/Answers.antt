@@ -1,4 +1,4 @@
-use Rattle.std.proofs.Common.{◌≡◌, ℕ, List, ap, ◌∙◌, ap₂}
+use Rattle.std.proofs.Common.{ℕ, List, ap, ◌∙◌, ap₂}
 use Rattle.groups.specs.declared.group.Group.{Group}
 use Rattle.search.specs.Fills.{fill_answer, filled_from}
 use Rattle.search.specs.Parts.{groups_watched_of, scope_list}

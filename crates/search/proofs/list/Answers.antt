@@ -1,4 +1,4 @@
-use Rattle.std.proofs.Common.{◌≡◌, List, sym, arith}
+use Rattle.std.proofs.Common.{List, sym, arith}
 use Rattle.groups.specs.declared.group.Group.{Group}
 use Rattle.search.specs.Parts.{scope_list}
 use Rattle.search.proofs.Fills.{answer_none, filled_past}

@@ -1,4 +1,4 @@
-use Rattle.std.proofs.Common.{◌≡◌, ℕ, ◌≤◌, subst, arith}
+use Rattle.std.proofs.Common.{◌≡◌, ℕ, subst, arith}
 use Rattle.search.specs.Nodes.{Transposed}
 use Rattle.search.proofs.Transposes.{transposed_none, transposed_more}
 use Rattle.search.proofs.forms.transposed.Goals as goal

@@ -1,4 +1,3 @@
-use Rattle.std.proofs.Common.{◌≡◌}
 use Rattle.search.specs.Nodes.{Transposed}
 use Rattle.search.proofs.forms.transposed.Given as goal
 

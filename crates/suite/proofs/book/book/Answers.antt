@@ -10,25 +10,25 @@ use Rattle.suite.specs.Steps.{plan_fault}
 use Rattle.suite.proofs.Judged.{refused_told, plan_refuses, front_ascends}
 use Rattle.suite.proofs.book.book.Goals as goal
 
-pub returns-in-err-plans : goal.returns-in-err-plans
-returns-in-err-plans g c =
+pub returns-in_err-plans : goal.returns-in_err-plans
+returns-in_err-plans g c =
     let L = ledger g.P.ReadPlan g.P.ChangePlan g.R.Register c.args.plan.now c.args.register.now in
     let cs = closed_changes c.args.batch.now in
     let new = c.args.new.now in
     let lapsed = c.args.lapsed.now in
-    let p = err_from_is_err_and c.from-residual.result c.from-residual.ensures.1 in
-    let b = refused_told L cs new lapsed c.from-residual.result p.0 p.1
+    let p = err_from_is_err_and c.from_residual.result c.from_residual.ensures.1 in
+    let b = refused_told L cs new lapsed c.from_residual.result p.0 p.1
     (plan_refuses L cs (length new) (length lapsed) (suite_cause p.0)
-    (ap (plan_fault L.keys L.doors L.rows L.places) (sym c.changes-changes.ensures) ∙ c.in-err-plans.ensures ∙ ap (λ z. Some (suite_cause z)) (sym p.2))) in
+    (ap (plan_fault L.keys L.doors L.rows L.places) (sym c.changes-changes.ensures) ∙ c.in_err-plans.ensures ∙ ap (λ z. Some (suite_cause z)) (sym p.2))) in
     record { answer = b.answer; after = b.after; new = b.new_list; lapsed = b.lapsed_list }
 
-pub book-compared-requires : goal.book-compared-requires
-book-compared-requires g c =
+pub book_compared-requires : goal.book_compared-requires
+book_compared-requires g c =
     let b = c.args.batch.now in
     record {
       ready = record {
         ascends = subst (λ z. Ascends before_by_pair z (length z)) (sym c.changes-changes.ensures) (front_ascends b.memory.now b.count b.within b.ascends);
-        fine = c.in-ok-plans.ensures.0;
+        fine = c.in_ok-plans.ensures.0;
       };
-      compares = c.in-ok-plans.ensures.1;
+      compares = c.in_ok-plans.ensures.1;
     }

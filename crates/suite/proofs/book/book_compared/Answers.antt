@@ -12,6 +12,6 @@ settle-requires g c =
     record {
       ready = c.requires.ready;
       fits =
-          found_fits L c.args.changes.now c.args.plans.now c.requires.compares (length new) (length lapsed) c.min.result c.min-2.result c.in-Ok.n c.in-Ok.m c.find-groups.new.table
+          found_fits L c.args.changes.now c.args.plans.now c.requires.compares (length new) (length lapsed) c.min.result c.min-2.result c.in-Ok.n c.in-Ok.m c.find_groups.new.table
           f.0 f.1 (omega (arith, c.min.ensures)) (omega (arith, c.min-2.ensures));
     }

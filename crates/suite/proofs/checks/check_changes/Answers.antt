@@ -7,21 +7,21 @@ use Rattle.ledger.specs.Ledger.{changes_fault, unless}
 use Rattle.suite.proofs.Turns.{fault_more, fault_found}
 use Rattle.suite.proofs.checks.check_changes.Goals as goal
 
-pub returns-in-err-check-change : goal.returns-in-err-check-change
-returns-in-err-check-change c =
-    let p = err_from_is_err_and c.from-residual.result c.from-residual.ensures.1 in
+pub returns-in_err-check_change : goal.returns-in_err-check_change
+returns-in_err-check_change c =
+    let p = err_from_is_err_and c.from_residual.result c.from_residual.ensures.1 in
     let rows = c.args.rows.now in
     let cs = c.args.changes.now in
     ap (told suite_cause) p.1 ∙ ap (λ z. Err (suite_cause z)) p.2
     ∙ fault_found (length rows) c.args.doors rows cs c.loop-index.index c.loop-index-test.true (changes_fault (length rows) c.args.doors rows 0 cs) _ c.loop-index.invariant
-    c.in-err-check-change.ensures
+    c.in_err-check_change.ensures
 
 pub loop-index-preserved : goal.loop-index-preserved
 loop-index-preserved c =
     let rows = c.args.rows.now in
     let cs = c.args.changes.now in
     fault_more (length rows) c.args.doors rows cs c.loop-index.index c.loop-index-test.true (changes_fault (length rows) c.args.doors rows 0 cs) c.loop-index.invariant
-    c.in-ok-check-change.ensures
+    c.in_ok-check_change.ensures
 
 pub returns : goal.returns
 returns c =

@@ -7,5 +7,5 @@ pub returns : goal.returns
 returns c =
     let rows = c.args.rows.now in
     let cs = c.args.changes.now in
-    compares rows c.carry-out.new.rows c.args.doors cs c.new.result c.requires.keys c.requires.doors (c.carry-out.auto.rows ∙ ap length c.copy-from-slice.ensures.after)
-    (c.carry-out.ensures ∙ ap (carried_out cs) c.copy-from-slice.ensures.after) c.new.ensures.before c.new.ensures.after c.new.ensures.doors
+    compares rows c.carry_out.new.rows c.args.doors cs c.new.result c.requires.keys c.requires.doors (c.carry_out.auto.rows ∙ ap length c.copy_from_slice.ensures.after)
+    (c.carry_out.ensures ∙ ap (carried_out cs) c.copy_from_slice.ensures.after) c.new.ensures.before c.new.ensures.after c.new.ensures.doors

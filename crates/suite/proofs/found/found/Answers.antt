@@ -6,8 +6,8 @@ use Rattle.suite.proofs.Compares.{table_rows}
 use Rattle.suite.proofs.Founds.{too_many, all_fit, founded_is, copied_groups, not_fitting, fitting}
 use Rattle.suite.proofs.found.found.Goals as goal
 
-pub returns-in-default : goal.returns-in-default
-returns-in-default g c =
+pub returns-in_default : goal.returns-in_default
+returns-in_default g c =
     let p = g.P.ReadPlan in
     let x = c.args.plan.now in
     let L = ledger p g.P.ChangePlan g.R.Register x c.args.register.now in
@@ -17,9 +17,9 @@ returns-in-default g c =
     let m = c.spare.result - 0 in
     let empty : length L.held ≡ 0 = omega (arith, c.count.ensures, c.if-count-gt0.false) in
     let long : length (take m (replicate 65536 nothing)) ≡ L.spare = length-take-le m (replicate 65536 nothing) (omega (arith, length-replicate 65536 nothing, c.spare.ensures)) ∙ (omega (arith, c.spare.ensures)) in
-    let tr = table_rows (p.keys x) n (p.rows x) c.rows-of-rows.result c.rows-of-rows.ensures.long s.few_keys c.keys-keys.ensures c.rows-of-rows.ensures.rows in
+    let tr = table_rows (p.keys x) n (p.rows x) c.rows_of-rows.result c.rows_of-rows.ensures.long s.few_keys c.keys-keys.ensures c.rows_of-rows.ensures.rows in
     record {
-      answer = too_many L empty (not_fitting L empty (take m (replicate 65536 nothing)) (take (n - 0) c.rows-of-rows.result) c.doors.result long tr c.doors.ensures c.in-default.ensures);
+      answer = too_many L empty (not_fitting L empty (take m (replicate 65536 nothing)) (take (n - 0) c.rows_of-rows.result) c.doors.result long tr c.doors.ensures c.in_default.ensures);
       after = refl;
     }
 
@@ -35,16 +35,16 @@ returns g c =
     let m = c.spare.result - 0 in
     let empty : length L.held ≡ 0 = omega (arith, c.count.ensures, c.if-count-gt0.false) in
     let long : length (take m (replicate 65536 nothing)) ≡ L.spare = length-take-le m (replicate 65536 nothing) (omega (arith, length-replicate 65536 nothing, c.spare.ensures)) ∙ (omega (arith, c.spare.ensures)) in
-    let tr = table_rows (p.keys x) n (p.rows x) c.rows-of-rows.result c.rows-of-rows.ensures.long s.few_keys c.keys-keys.ensures c.rows-of-rows.ensures.rows in
+    let tr = table_rows (p.keys x) n (p.rows x) c.rows_of-rows.result c.rows_of-rows.ensures.long s.few_keys c.keys-keys.ensures c.rows_of-rows.ensures.rows in
     let z = c.in-Some.ensures in
     let T = take m (replicate 65536 nothing) in
-    let rows = take (n - 0) c.rows-of-rows.result in
+    let rows = take (n - 0) c.rows_of-rows.result in
     let same = copied_groups L empty T rows c.doors.result long tr c.doors.ensures in
     let fits = fitting L empty T rows c.doors.result long tr c.doors.ensures c.in-Some.count z.0 z.1 in
     let front : c.in-Some.count - 0 ≡ c.in-Some.count = omega arith in
     record {
       answer = ap Ok (z.0 ∙ ap length same) ∙ all_fit L empty fits;
       after =
-          founded_is L empty fits (take (c.in-Some.count - 0) c.list-groups.new.table) (r.held c.enter-all.new.register) (r.spare c.enter-all.new.register)
-          (ap (λ k. take k c.list-groups.new.table) front ∙ z.2 ∙ same) c.enter-all.ensures.held c.enter-all.ensures.spare;
+          founded_is L empty fits (take (c.in-Some.count - 0) c.list_groups.new.table) (r.held c.enter_all.new.register) (r.spare c.enter_all.new.register)
+          (ap (λ k. take k c.list_groups.new.table) front ∙ z.2 ∙ same) c.enter_all.ensures.held c.enter_all.ensures.spare;
     }

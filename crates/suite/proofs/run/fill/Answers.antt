@@ -14,20 +14,20 @@ use Rattle.suite.proofs.Fills.{same_capacity, puts_more, puts_refused, entered_m
 use Rattle.suite.proofs.Turns.{blank, fine}
 use Rattle.suite.proofs.run.fill.Goals as goal
 
-pub returns-in-err-put : goal.returns-in-err-put
-returns-in-err-put c =
+pub returns-in_err-put : goal.returns-in_err-put
+returns-in_err-put c =
     let d = c.loop-change.draft in
     let d₀ = c.args.draft.now in
     let list = c.args.list.now in
     let i = c.loop-change.change-index in
     let inv = c.loop-change.invariant in
     let x = get_or list i blank in
-    let p = err_from_is_err_and c.from-residual.result c.from-residual.ensures.1 in
+    let p = err_from_is_err_and c.from_residual.result c.from_residual.ensures.1 in
     record {
       answer =
           ap (told draft_cause) p.1 ∙ ap (λ z. Err (draft_cause z)) p.2
           ∙ puts_refused (capacity_of (memory_of d₀)) list (changes d) i c.loop-change-test.true _ (puts_fault (capacity_of (memory_of d₀)) (changes d₀) list)
-          (c.in-err-put.ensures.answer ∙ ap (λ z. put_answer (changes d) z x) inv.0) inv.1;
+          (c.in_err-put.ensures.answer ∙ ap (λ z. put_answer (changes d) z x) inv.0) inv.1;
       filled = λ e. absurd (true≢false (sym e ∙ ap is_ok p.1));
     }
 
@@ -41,7 +41,7 @@ loop-change-preserved c =
     let h = c.loop-change-test.true in
     let inv = c.loop-change.invariant in
     let x = get_or list i blank in
-    let f = c.in-ok-put.ensures in (
+    let f = c.in_ok-put.ensures in (
       same_capacity (changes d) (changes e) (memory_of d) (memory_of e) x f.answer f.changes f.memory ∙ inv.0,
       puts_more (capacity_of (memory_of d₀)) list (changes d) i h (changes e) (puts_fault (capacity_of (memory_of d₀)) (changes d₀) list) (f.answer ∙ ap (λ z. put_answer (changes d) z x) inv.0) f.changes inv.1,
       entered_more (capacity_of (memory_of d₀)) list (changes d) i h (changes e) (all_entered change_before list (changes d₀)) f.changes inv.2,

@@ -8,8 +8,8 @@ use Rattle.suite.proofs.Turns.{blank, additions_more, additions_step, permit_can
 use Rattle.suite.proofs.steps.permit_all.Goals as goal
 use Rattle.suite.proofs.steps.permit_all.Goals.{then-change, else-change}
 
-pub permit-pair-requires : goal.permit-pair-requires
-permit-pair-requires g c =
+pub permit_pair-requires : goal.permit_pair-requires
+permit_pair-requires g c =
     let p = g.P.ReadPlan in
     let x = c.loop-change.plan in
     permit_can (p.keys x) (p.doors x) c.args.changes.now c.loop-change.change-index c.loop-change-test.true (p.rows x) (g.P.ChangePlan.spare x) c.if-change.true c.loop-change.invariant.0

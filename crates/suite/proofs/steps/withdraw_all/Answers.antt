@@ -8,8 +8,8 @@ use Rattle.suite.proofs.Turns.{blank, removals_more, removals_step, withdraw_can
 use Rattle.suite.proofs.steps.withdraw_all.Goals as goal
 use Rattle.suite.proofs.steps.withdraw_all.Goals.{then-not-change, else-not-change}
 
-pub withdraw-pair-requires : goal.withdraw-pair-requires
-withdraw-pair-requires g c =
+pub withdraw_pair-requires : goal.withdraw_pair-requires
+withdraw_pair-requires g c =
     let p = g.P.ReadPlan in
     let x = c.loop-change.plan in
     withdraw_can (p.keys x) (p.doors x) c.args.changes.now c.loop-change.change-index c.loop-change-test.true (p.rows x) c.if-not-change.true c.loop-change.invariant.0

@@ -1,4 +1,4 @@
-use Rattle.std.proofs.Common.{◌≡◌, List, sym, refl, ap, ◌∙◌, arith, rules, ltb-false, ltb-true}
+use Rattle.std.proofs.Common.{List, sym, refl, ap, ◌∙◌, arith, rules, ltb-false, ltb-true}
 use Rattle.pairs.specs.declared.change.Change.{Change}
 use Rattle.pairs.specs.Orders.{change_before}
 use Rattle.table.specs.Sets.{all_entered}

@@ -1,8 +1,8 @@
-use Rattle.std.proofs.Common.{◌≡◌, ℕ, true, false, List, sym, refl, ap, ◌∙◌, subst, arith}
+use Rattle.std.proofs.Common.{ℕ, List, sym, refl, ap, ◌∙◌, arith}
 use Rattle.std.proofs.lemmas.Result.{err_from_is_err_and}
-use Rattle.batch.specs.Drafts.{changes, memory_of}
+use Rattle.batch.specs.Drafts.{changes}
 use Rattle.batch.proofs.Puts.{filled_same}
-use Rattle.weekly.specs.Body.{added_bytes, removed_bytes}
+use Rattle.weekly.specs.Body.{added_bytes}
 use Rattle.weekly.specs.Marks.{merged}
 use Rattle.weekly.proofs.Answered.{read_not_empty, read_faulty, read_narrow, read_taken, none_held}
 use Rattle.weekly.proofs.Takes.{changes_are, part_takes}

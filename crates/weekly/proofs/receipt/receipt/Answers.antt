@@ -1,4 +1,4 @@
-use Rattle.std.proofs.Common.{◌≡◌, length, sym, refl, ap, ◌∙◌, arith}
+use Rattle.std.proofs.Common.{length, refl, ap, ◌∙◌, arith}
 use Rattle.std.proofs.lemmas.Result.{err_from_is_err_and}
 use Rattle.batch.specs.Drafts.{changes, memory_of, closed_changes}
 use Rattle.weekly.proofs.Receipts.{read_whole, receipt_refused, receipt_short, receipt_taken, receipt_bytes}

@@ -1,4 +1,4 @@
-use Rattle.std.proofs.Common.{◌≡◌, sym, refl, ap, ◌∙◌, arith}
+use Rattle.std.proofs.Common.{sym, refl, arith}
 use Rattle.std.proofs.lemmas.Result.{err_from_is_err_and}
 use Rattle.batch.proofs.Puts.{filled_same, refused_number, passed_number, answer_held, answer_full, answer_taken}
 use Rattle.batch.proofs.lent.Draft.put.Goals as goal

@@ -1,4 +1,4 @@
-use Rattle.std.proofs.Common.{◌≡◌, ℕ, List, sym, ap, ◌∙◌, subst}
+use Rattle.std.proofs.Common.{List, sym, ap, ◌∙◌, subst}
 use Rattle.groups.specs.declared.group.Group.{Group}
 use Rattle.groups.specs.Lists.{new_groups_of}
 use Rattle.groups.proofs.Minus.{lapsed_new}

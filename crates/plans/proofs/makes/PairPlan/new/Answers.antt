@@ -1,4 +1,4 @@
-use Rattle.std.proofs.Common.{◌≡◌, refl, arith}
+use Rattle.std.proofs.Common.{refl, arith}
 use Rattle.plans.proofs.Listed.{rows_none}
 use Rattle.plans.proofs.makes.PairPlan.new.Goals as goal
 

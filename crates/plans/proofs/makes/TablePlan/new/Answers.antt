@@ -1,4 +1,4 @@
-use Rattle.std.proofs.Common.{◌≡◌, sym, refl, arith}
+use Rattle.std.proofs.Common.{sym, refl, arith}
 use Rattle.plans.proofs.Cells.{none_agree, none_below, none_rows, none_counts}
 use Rattle.plans.proofs.makes.TablePlan.new.Goals as goal
 

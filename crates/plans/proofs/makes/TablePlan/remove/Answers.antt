@@ -1,4 +1,4 @@
-use Rattle.std.proofs.Common.{◌≡◌, refl, arith}
+use Rattle.std.proofs.Common.{refl, arith}
 use Rattle.plans.proofs.Cells.{some_pair, take_away}
 use Rattle.plans.proofs.makes.TablePlan.remove.Goals as goal
 

@@ -1,4 +1,4 @@
-use Rattle.std.proofs.Common.{◌≡◌, ℕ, ap, ◌∙◌}
+use Rattle.std.proofs.Common.{ℕ, ap, ◌∙◌}
 use Rattle.masks.specs.Masks.{has_bit}
 use Rattle.plans.proofs.Cells.{row_front}
 use Rattle.plans.proofs.makes.TablePlan.stands.Goals as goal

@@ -1,5 +1,4 @@
-use Rattle.std.proofs.Common.{◌≡◌, ℕ, List, ap, ◌∙◌}
-use Rattle.pairs.specs.declared.pair.Pair.{Pair}
+use Rattle.std.proofs.Common.{ℕ, ap, ◌∙◌}
 use Rattle.plans.specs.Pairs.{doors_in, all_inside}
 use Rattle.plans.specs.Lents.{lent_keys, lent_doors, lent_pairs}
 use Rattle.plans.proofs.Listed.{inside_wide, doors_row}

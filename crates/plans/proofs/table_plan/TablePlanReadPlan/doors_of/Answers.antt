@@ -1,4 +1,4 @@
-use Rattle.std.proofs.Common.{◌≡◌, ℕ, get_or, ap, ◌∙◌}
+use Rattle.std.proofs.Common.{ℕ, get_or, ap, ◌∙◌}
 use Rattle.plans.proofs.Cells.{row_front}
 use Rattle.plans.proofs.table_plan.TablePlanReadPlan.doors_of.Goals as goal
 

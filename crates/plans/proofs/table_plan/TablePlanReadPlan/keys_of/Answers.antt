@@ -1,4 +1,4 @@
-use Rattle.std.proofs.Common.{◌≡◌, ℕ, get_or, ap, ◌∙◌}
+use Rattle.std.proofs.Common.{ℕ, get_or, ap, ◌∙◌}
 use Rattle.plans.proofs.Cells.{column_front}
 use Rattle.plans.proofs.table_plan.TablePlanReadPlan.keys_of.Goals as goal
 

@@ -1,4 +1,4 @@
-use Rattle.std.proofs.Common.{◌≡◌, ap, ◌∙◌, arith}
+use Rattle.std.proofs.Common.{ap, ◌∙◌, arith}
 use Rattle.groups.specs.Orders.{group_before}
 use Rattle.table.specs.Sets.{placed}
 use Rattle.registers.specs.Journals.{held_beside}

@@ -1,4 +1,4 @@
-use Rattle.std.proofs.Common.{◌≡◌, List, refl, ap, ◌∙◌, arith}
+use Rattle.std.proofs.Common.{List, refl, ap, ◌∙◌, arith}
 use Rattle.groups.specs.declared.group.Group.{Group}
 use Rattle.table.specs.Rows.{with_row}
 use Rattle.registers.proofs.Lines.{goes, note_entered}

@@ -1,4 +1,4 @@
-use Rattle.std.proofs.Common.{◌≡◌, List, refl, ap, ◌∙◌, arith}
+use Rattle.std.proofs.Common.{List, refl, ap, ◌∙◌, arith}
 use Rattle.groups.specs.declared.group.Group.{Group}
 use Rattle.table.specs.Rows.{without_row}
 use Rattle.registers.proofs.Lines.{found, note_struck}

@@ -1,4 +1,4 @@
-use Rattle.std.proofs.Common.{◌≡◌, List, ap, ◌∙◌}
+use Rattle.std.proofs.Common.{List, ap, ◌∙◌}
 use Rattle.groups.specs.declared.group.Group.{Group}
 use Rattle.search.specs.Fills.{fill_answer, filled_from}
 use Rattle.search.proofs.Made.{tables_watched_whole}

@@ -1,4 +1,4 @@
-use Rattle.std.proofs.Common.{◌≡◌, ℕ, ◌≤◌, min, List, length, get_or, take, ap, ◌∙◌, subst, arith}
+use Rattle.std.proofs.Common.{◌≡◌, ℕ, ◌≤◌, min, List, length, get_or, take, ap, ◌∙◌, arith}
 use Rattle.search.proofs.Columns.{padded_front, padded_length, padded_past}
 use Rattle.search.proofs.Made.{agreeing}
 use Rattle.search.proofs.Transposes.{columns_past}

@@ -1,4 +1,4 @@
-use Rattle.std.proofs.Common.{◌≡◌, sym, arith}
+use Rattle.std.proofs.Common.{sym}
 use Rattle.search.proofs.Made.{agreeing, columns_are, rows_long, tables_turned}
 use Rattle.search.proofs.Transposes.{columns_past, transposed_back}
 use Rattle.search.proofs.tables.Tables.turned.Goals as goal
