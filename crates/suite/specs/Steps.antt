@@ -68,13 +68,13 @@ going t = lapsed_groups_of (before_rows t) (after_rows t) (two_doors t)
 
 -- how many groups each list has, or 18 or 19 where the first or the second has more than its limit
 abbrev pub lists_answer : ℕ → ℕ → List Group → List Group → Result (ℕ × ℕ) Cause
-lists_answer new-limit lapsed-limit new lapsed =
-    cond (nat_lt new-limit (length new)) (Err (bare 18))
-    (cond (nat_lt lapsed-limit (length lapsed)) (Err (bare 19)) (Ok (length new, length lapsed)))
+lists_answer new_limit lapsed_limit new lapsed =
+    cond (nat_lt new_limit (length new)) (Err (bare 18))
+    (cond (nat_lt lapsed_limit (length lapsed)) (Err (bare 19)) (Ok (length new, length lapsed)))
 
 -- a table of so many places has room to look for as many groups of both kinds
 abbrev pub Roomy : ℕ → ℕ → ℕ → Type 0
-Roomy places new-limit lapsed-limit = (2 * new-limit ≤ places) × (new-limit + 2 * lapsed-limit ≤ places)
+Roomy places new_limit lapsed_limit = (2 * new_limit ≤ places) × (new_limit + 2 * lapsed_limit ≤ places)
 
 -- the table begins with the first list, and goes on with the second
 pub record Begins (new lapsed table : List Group) : Type 0 where

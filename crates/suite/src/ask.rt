@@ -17,7 +17,7 @@ pub fn ask<P: ChangePlan, R: Register>(
     register: &R,
     question: Question,
 ) -> Result<Answer, NumberFault>
-    ensures { told number_cause result ≡ ask_answer (ledger P.ReadPlan P.ChangePlan R.Register plan.now register.now) question }
+    ensures { told number_cause result ≡ ask_answer (ledger P.ReadPlan P.ChangePlan.own R.Register plan.now register.now) question }
 {
     Ok(match question {
         Question::Sizes => Answer::Sizes {

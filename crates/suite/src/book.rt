@@ -54,9 +54,9 @@ fn settle<P: ChangePlan, R: Register>(
     new: &mut [Group],
     lapsed: &mut [Group],
 ) -> Result<(usize, usize), SuiteFault>
-    requires ready { Ready (ledger P.ReadPlan P.ChangePlan R.Register plan.old register.old) changes.now }
-    requires fits { Fits (ledger P.ReadPlan P.ChangePlan R.Register plan.old register.old) changes.now (length new.old) (length lapsed.old) coming.now going.now }
-    ensures { Booking (ledger P.ReadPlan P.ChangePlan R.Register plan.old register.old) (ledger P.ReadPlan P.ChangePlan R.Register plan.new register.new) changes.now new.old new.new lapsed.old lapsed.new (told suite_cause result) }
+    requires ready { Ready (ledger P.ReadPlan P.ChangePlan.own R.Register plan.old register.old) changes.now }
+    requires fits { Fits (ledger P.ReadPlan P.ChangePlan.own R.Register plan.old register.old) changes.now (length new.old) (length lapsed.old) coming.now going.now }
+    ensures { Booking (ledger P.ReadPlan P.ChangePlan.own R.Register plan.old register.old) (ledger P.ReadPlan P.ChangePlan.own R.Register plan.new register.new) changes.now new.old new.new lapsed.old lapsed.new (told suite_cause result) }
 {
     if is_out_of_step(register, coming, going) {
         return Err(SuiteFault::OutOfStep);
@@ -82,9 +82,9 @@ fn book_at_length<P: ChangePlan, R: Register>(
     new: &mut [Group],
     lapsed: &mut [Group],
 ) -> Result<(usize, usize), SuiteFault>
-    requires ready { Ready (ledger P.ReadPlan P.ChangePlan R.Register plan.old register.old) changes.now }
+    requires ready { Ready (ledger P.ReadPlan P.ChangePlan.own R.Register plan.old register.old) changes.now }
     requires compares { Compares (P.ReadPlan.doors plan.old) (P.ReadPlan.rows plan.old) changes.now plans.now }
-    ensures { Booking (ledger P.ReadPlan P.ChangePlan R.Register plan.old register.old) (ledger P.ReadPlan P.ChangePlan R.Register plan.new register.new) changes.now new.old new.new lapsed.old lapsed.new (told suite_cause result) }
+    ensures { Booking (ledger P.ReadPlan P.ChangePlan.own R.Register plan.old register.old) (ledger P.ReadPlan P.ChangePlan.own R.Register plan.new register.new) changes.now new.old new.new lapsed.old lapsed.new (told suite_cause result) }
 {
     let mut table = [NOTHING; LARGE];
     let (n, m) = find_groups(
@@ -113,9 +113,9 @@ fn book_compared<P: ChangePlan, R: Register>(
     new: &mut [Group],
     lapsed: &mut [Group],
 ) -> Result<(usize, usize), SuiteFault>
-    requires ready { Ready (ledger P.ReadPlan P.ChangePlan R.Register plan.old register.old) changes.now }
+    requires ready { Ready (ledger P.ReadPlan P.ChangePlan.own R.Register plan.old register.old) changes.now }
     requires compares { Compares (P.ReadPlan.doors plan.old) (P.ReadPlan.rows plan.old) changes.now plans.now }
-    ensures { Booking (ledger P.ReadPlan P.ChangePlan R.Register plan.old register.old) (ledger P.ReadPlan P.ChangePlan R.Register plan.new register.new) changes.now new.old new.new lapsed.old lapsed.new (told suite_cause result) }
+    ensures { Booking (ledger P.ReadPlan P.ChangePlan.own R.Register plan.old register.old) (ledger P.ReadPlan P.ChangePlan.own R.Register plan.new register.new) changes.now new.old new.new lapsed.old lapsed.new (told suite_cause result) }
 {
     let mut table = [NOTHING; SMALL];
     match find_groups(
@@ -146,10 +146,10 @@ pub fn book<P: ChangePlan, R: Register>(
     new: &mut [Group],
     lapsed: &mut [Group],
 ) -> Result<(usize, usize), SuiteFault>
-    ensures answer { told suite_cause result ≡ book_answer (ledger P.ReadPlan P.ChangePlan R.Register plan.old register.old) (closed_changes batch.now) (length new.old) (length lapsed.old) }
-    ensures after { ledger P.ReadPlan P.ChangePlan R.Register plan.new register.new ≡ booked_if (told suite_cause result) (ledger P.ReadPlan P.ChangePlan R.Register plan.old register.old) (closed_changes batch.now) }
-    ensures new { new.new ≡ over_if (told suite_cause result) (arising (ledger P.ReadPlan P.ChangePlan R.Register plan.old register.old) (closed_changes batch.now)) new.old }
-    ensures lapsed { lapsed.new ≡ over_if (told suite_cause result) (lapsing (ledger P.ReadPlan P.ChangePlan R.Register plan.old register.old) (closed_changes batch.now)) lapsed.old }
+    ensures answer { told suite_cause result ≡ book_answer (ledger P.ReadPlan P.ChangePlan.own R.Register plan.old register.old) (closed_changes batch.now) (length new.old) (length lapsed.old) }
+    ensures after { ledger P.ReadPlan P.ChangePlan.own R.Register plan.new register.new ≡ booked_if (told suite_cause result) (ledger P.ReadPlan P.ChangePlan.own R.Register plan.old register.old) (closed_changes batch.now) }
+    ensures new { new.new ≡ over_if (told suite_cause result) (arising (ledger P.ReadPlan P.ChangePlan.own R.Register plan.old register.old) (closed_changes batch.now)) new.old }
+    ensures lapsed { lapsed.new ≡ over_if (told suite_cause result) (lapsing (ledger P.ReadPlan P.ChangePlan.own R.Register plan.old register.old) (closed_changes batch.now)) lapsed.old }
 {
     let changes = batch.changes();
     let plans = compare(plan, changes)?;

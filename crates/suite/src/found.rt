@@ -30,8 +30,8 @@ fn list_groups(rows: &[u64], doors: usize, table: &mut [Group]) -> Option<usize>
 
 // Enters every group of the plan, and answers how many there are. What the register then holds is the founding list. A refusal changes nothing.
 pub fn found<P: ChangePlan, R: Register>(plan: &P, register: &mut R) -> Result<usize, SuiteFault>
-    ensures answer { told suite_cause result ≡ found_answer (ledger P.ReadPlan P.ChangePlan R.Register plan.now register.old) }
-    ensures after { ledger P.ReadPlan P.ChangePlan R.Register plan.now register.new ≡ founded_if (told suite_cause result) (ledger P.ReadPlan P.ChangePlan R.Register plan.now register.old) }
+    ensures answer { told suite_cause result ≡ found_answer (ledger P.ReadPlan P.ChangePlan.own R.Register plan.now register.old) }
+    ensures after { ledger P.ReadPlan P.ChangePlan.own R.Register plan.now register.new ≡ founded_if (told suite_cause result) (ledger P.ReadPlan P.ChangePlan.own R.Register plan.now register.old) }
 {
     if register.count() > 0 {
         return Err(SuiteFault::NotEmpty);

@@ -50,7 +50,7 @@ fn book_changes<P: ChangePlan, R: Register>(
     new: &mut [Group],
     lapsed: &mut [Group],
 ) -> Result<(usize, usize), BookingFault>
-    ensures { Booked (ledger P.ReadPlan P.ChangePlan R.Register plan.old register.old) (ledger P.ReadPlan P.ChangePlan R.Register plan.new register.new) list.now new.old new.new lapsed.old lapsed.new (told booking_cause result) }
+    ensures { Booked (ledger P.ReadPlan P.ChangePlan.own R.Register plan.old register.old) (ledger P.ReadPlan P.ChangePlan.own R.Register plan.new register.new) list.now new.old new.new lapsed.old lapsed.new (told booking_cause result) }
 {
     let mut memory = [BLANK; 64];
     let mut draft = Draft::new(&mut memory);
@@ -61,8 +61,8 @@ fn book_changes<P: ChangePlan, R: Register>(
 
 // Makes one call, and writes its answer into it.
 fn step<P: ChangePlan, R: Register>(plan: &mut P, register: &mut R, call: &mut Call)
-    ensures moved { ledger P.ReadPlan P.ChangePlan R.Register plan.new register.new ≡ next (ledger P.ReadPlan P.ChangePlan R.Register plan.old register.old) (seen call.old) }
-    ensures replied { seen call.new ≡ reply (ledger P.ReadPlan P.ChangePlan R.Register plan.old register.old) (seen call.old) }
+    ensures moved { ledger P.ReadPlan P.ChangePlan.own R.Register plan.new register.new ≡ next (ledger P.ReadPlan P.ChangePlan.own R.Register plan.old register.old) (seen call.old) }
+    ensures replied { seen call.new ≡ reply (ledger P.ReadPlan P.ChangePlan.own R.Register plan.old register.old) (seen call.old) }
 {
     match call {
         Call::Book {
@@ -88,7 +88,7 @@ fn step<P: ChangePlan, R: Register>(plan: &mut P, register: &mut R, call: &mut C
 
 // Makes any list of calls on a suite that stands, or on any other plan and register, and writes the answer of each into it.
 pub fn resume<P: ChangePlan, R: Register>(plan: &mut P, register: &mut R, calls: &mut [Call])
-    ensures { Kept (ledger P.ReadPlan P.ChangePlan R.Register plan.old register.old) (ledger P.ReadPlan P.ChangePlan R.Register plan.new register.new) (map seen calls.old) (map seen calls.new) }
+    ensures { Kept (ledger P.ReadPlan P.ChangePlan.own R.Register plan.old register.old) (ledger P.ReadPlan P.ChangePlan.own R.Register plan.new register.new) (map seen calls.old) (map seen calls.new) }
 {
     for call in calls.iter_mut() {
         step(plan, register, call);
@@ -102,10 +102,10 @@ pub fn run<P: ChangePlan, R: Register>(
     register: &mut R,
     calls: &mut [Call],
 ) -> Result<usize, SuiteFault>
-    ensures answer { told suite_cause result ≡ found_answer (ledger P.ReadPlan P.ChangePlan R.Register plan.old register.old) }
-    ensures kept { is_ok result ≡ true → Kept (founded (ledger P.ReadPlan P.ChangePlan R.Register plan.old register.old)) (ledger P.ReadPlan P.ChangePlan R.Register plan.new register.new) (map seen calls.old) (map seen calls.new) }
-    ensures groups { is_ok result ≡ true → InStep (ledger P.ReadPlan P.ChangePlan R.Register plan.new register.new) }
-    ensures refused { is_ok result ≡ false → (ledger P.ReadPlan P.ChangePlan R.Register plan.new register.new ≡ ledger P.ReadPlan P.ChangePlan R.Register plan.old register.old) × (calls.new ≡ calls.old) }
+    ensures answer { told suite_cause result ≡ found_answer (ledger P.ReadPlan P.ChangePlan.own R.Register plan.old register.old) }
+    ensures kept { is_ok result ≡ true → Kept (founded (ledger P.ReadPlan P.ChangePlan.own R.Register plan.old register.old)) (ledger P.ReadPlan P.ChangePlan.own R.Register plan.new register.new) (map seen calls.old) (map seen calls.new) }
+    ensures groups { is_ok result ≡ true → InStep (ledger P.ReadPlan P.ChangePlan.own R.Register plan.new register.new) }
+    ensures refused { is_ok result ≡ false → (ledger P.ReadPlan P.ChangePlan.own R.Register plan.new register.new ≡ ledger P.ReadPlan P.ChangePlan.own R.Register plan.old register.old) × (calls.new ≡ calls.old) }
 {
     let count = found(plan, register)?;
     resume(plan, register, calls);

@@ -3,7 +3,7 @@ use Rattle.std.proofs.lemmas.List.{length-set, take_all}
 use Rattle.faults.specs.Faults.{number_cause}
 use Rattle.suite.proofs.Turns.{rows_more, number_made, number_refused}
 use Rattle.suite.proofs.rows.rows_of.Goals as goal
-use Rattle.suite.proofs.rows.rows_of.Goals.{in-Ok, in-default}
+use Rattle.suite.proofs.rows.rows_of.Goals.{in-Ok, in_default}
 
 pub loop-key-preserved : goal.loop-key-preserved
 loop-key-preserved g c =
@@ -18,12 +18,12 @@ loop-key-preserved g c =
     let h : k < length rows = omega (arith, c.loop-key-test.true) in
     elim c.match-new.branch [
       | in-Ok w ↦
-          let v = w.doors-of.result in
+          let v = w.doors_of.result in
           let n = number_made w.in-Ok.number.value k w.in-Ok.ensures in (
             ap length w.rows-is ∙ length-set table k v ∙ m,
-            ap (take (k + 1)) w.rows-is ∙ rows_more table rows k v (omega arith) h (w.doors-of.ensures ∙ ap (λ z. get_or rows z 0) n) c.loop-key.invariant.1,
+            ap (take (k + 1)) w.rows-is ∙ rows_more table rows k v (omega arith) h (w.doors_of.ensures ∙ ap (λ z. get_or rows z 0) n) c.loop-key.invariant.1,
           )
-      | in-default w ↦ absurd (number_refused k (number_cause w.in-default.field-0) (omega arith) w.in-default.ensures)
+      | in_default w ↦ absurd (number_refused k (number_cause w.in_default.field-0) (omega arith) w.in_default.ensures)
     ]
 
 pub returns : goal.returns

@@ -28,8 +28,8 @@ loop-change-preserved g c =
     let q = additions_step cs i h in
     elim c.if-change.branch [
       | then-change w ↦
-          let y = w.permit-pair.new.plan in
-          let e = w.permit-pair.ensures in
+          let y = w.permit_pair.new.plan in
+          let e = w.permit_pair.ensures in
           let f = w.if-change.true in
           let t : cond {A = ℕ} d.added 1 0 ≡ 1 = ap (λ z. cond z 1 0) f in
           let v = e.spare in

@@ -28,8 +28,8 @@ loop-change-preserved g c =
     let q = removals_step cs i h in
     elim c.if-not-change.branch [
       | then-not-change w ↦
-          let y = w.withdraw-pair.new.plan in
-          let e = w.withdraw-pair.ensures in
+          let y = w.withdraw_pair.new.plan in
+          let e = w.withdraw_pair.ensures in
           let f = w.if-not-change.true in
           let t : cond {A = ℕ} d.added 0 1 ≡ 1 = ap (λ z. cond z 0 1) f in
           let v = e.spare in
