@@ -11,7 +11,7 @@ import glob
 import re
 
 OTHERS = {
-    "bad-byte": "is_bad_byte",
+    "bad-byte": "first_bad_byte",
     "bit-and": "bit_of_and",
     "bit-or": "bit_of_or",
     "columns-end": "columns_past",

@@ -87,19 +87,19 @@ abbrev pub shared_count : List ℕ → List ℕ → ℕ
 shared_count before after = min (min (length before) (length after)) 64
 
 -- two plans of the same keys and doors, at most 64 of each, by their rows and by their columns
-pub record Compared (before before-columns after after-columns : List ℕ) : Type 0 where
+pub record Compared (before before_columns after after_columns : List ℕ) : Type 0 where
   pub few : length before ≤ 64
   pub same : length after ≡ length before
-  pub doors : length before-columns ≤ 64
-  pub before_turned : Turned before before-columns (length before-columns)
-  pub after_turned : Turned after after-columns (length before-columns)
+  pub doors : length before_columns ≤ 64
+  pub before_turned : Turned before before_columns (length before_columns)
+  pub after_turned : Turned after after_columns (length before_columns)
 
 -- the set has each of the first m rows that had one of the numbers below n before and has it no more
 abbrev pub Losing : List ℕ → List ℕ → ℕ → ℕ → ℕ → Type 0
 Losing before after n m set = (k d : ℕ) → k < m → d < n → Opens before k d → (Opens after k d → ⊥) → Has set k
 
 -- the keys have each key that lost or gained a door, and the doors each that lost a key
-pub record Marked (before before-columns after after-columns : List ℕ) (keys doors : ℕ) : Type 0 where
-  pub lost : Losing before after (length before-columns) (length before) keys
-  pub gained : Losing after before (length before-columns) (length before) keys
-  pub doors_lost : Losing before-columns after-columns (length before) (length before-columns) doors
+pub record Marked (before before_columns after after_columns : List ℕ) (keys doors : ℕ) : Type 0 where
+  pub lost : Losing before after (length before_columns) (length before) keys
+  pub gained : Losing after before (length before_columns) (length before) keys
+  pub doors_lost : Losing before_columns after_columns (length before) (length before_columns) doors

@@ -8,7 +8,7 @@ fn group(keys: u64, doors: u64) -> Group {
 }
 
 #[test]
-fn a_pair_joins(rt: HostRuntime) {
+fn both_lists_of_two_plans(rt: HostRuntime) {
     let mut table = [EMPTY; 8];
     assert_eq!(rt;
         TwoPlans::new(&[3, 2, 4], &[3, 3, 4], 3).new_groups(&mut table, 0, 4),

@@ -10,7 +10,7 @@ use Rattle.groups.specs.Lists.{carried_out}
 use Rattle.ledger.specs.Ledger.{Ledger, arising, lapsing, book_answer, booked, over}
 use Rattle.ledger.specs.Calls.{Seen, booking, asking, batch_of, changes_answer, booked_if, over_if, next, reply, after, replies}
 use Rattle.ledger.specs.Copies.{copy, copied, AllThere, NoneThere, SoundCopy, booked_batches, all_carried_out, changed_groups}
-use Rattle.ledger.specs.Laws.{AscendingGroups, InStep, Follows, Goes_on}
+use Rattle.ledger.specs.Laws.{AscendingGroups, InStep, Follows, GoesOn}
 use Rattle.ledger.proofs.Refusals.{book_ok, changes_ok}
 use Rattle.ledger.proofs.Bookings.{booked_keys, booked_doors, booked_rows, booked_held, booked_spare, booked_spends, booked_ascends, booking_there, booking_none, after_spending, arising_lapsing, booked_in_step}
 
@@ -165,5 +165,5 @@ pub replies_append : (L : Ledger) (a b : List Seen) → replies L a ++ replies (
 replies_append L [] b = refl
 replies_append L (c ∷ a) b = ap (λ (z : List Seen). reply L c ∷ z) (replies_append (next L c) a b)
 
-pub goes_on : Goes_on
+pub goes_on : GoesOn
 goes_on = record { ledger = after_append; calls = replies_append }

@@ -36,7 +36,7 @@ abbrev pub AlwaysFollows : Type 0
 AlwaysFollows = (L : Ledger) (calls : List Seen) → AscendingGroups L.held → Follows L calls
 
 -- two lists of calls one after the other are as their concatenation
-pub record Goes_on : Type 0 where
+pub record GoesOn : Type 0 where
   pub ledger : (L : Ledger) (a b : List Seen) → after (after L a) b ≡ after L (a ++ b)
   pub calls : (L : Ledger) (a b : List Seen) → replies L a ++ replies (after L a) b ≡ replies L (a ++ b)
 

@@ -1,5 +1,5 @@
 // The laws over any list of calls, as theorems.
-ghost use Rattle.ledger.specs.Laws.{AlwaysFollows, Goes_on, NeverOutOfStep, FoundedInStep};
+ghost use Rattle.ledger.specs.Laws.{AlwaysFollows, GoesOn, NeverOutOfStep, FoundedInStep};
 
 // Plan, register and the copy kept by the lists follow the bookings, whatever the calls.
 pub fn always_follows() -> u8
@@ -10,7 +10,7 @@ pub fn always_follows() -> u8
 
 // Two lists of calls one after the other are as their concatenation.
 pub fn goes_on() -> u8
-    ensures { Goes_on }
+    ensures { GoesOn }
 {
     0
 }

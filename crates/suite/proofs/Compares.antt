@@ -1,7 +1,6 @@
 -- The plan before and after a batch.
-use Rattle.std.proofs.Common.{◌≡◌, ℕ, ◌+◌, ◌-◌, ◌≤◌, min, Bool, true, false, cond, ltb, List, length, take, Some, None, Ok, Err, Option, Result, sym, refl, ap, ◌∙◌, subst, arith}
+use Rattle.std.proofs.Common.{◌≡◌, ℕ, ◌+◌, ◌-◌, ◌≤◌, min, false, cond, ltb, List, length, take, Some, None, sym, ap, ◌∙◌, arith}
 use Rattle.std.proofs.lemmas.List.{take_all, length-take-le}
-use Rattle.faults.specs.declared.cause.Cause.{Cause}
 use Rattle.faults.specs.Causes.{bare}
 use Rattle.pairs.specs.declared.change.Change.{Change}
 use Rattle.groups.specs.Lists.{carried_out}
@@ -10,8 +9,8 @@ use Rattle.difference.specs.Both.{before_rows, after_rows, two_doors}
 use Rattle.difference.specs.Changes.{shared_count}
 use Rattle.ledger.specs.Ledger.{additions, removals, first_of, changes_fault, unless}
 use Rattle.ledger.proofs.Refusals.{unless_ok}
-use Rattle.suite.specs.Steps.{all_in_range, plan_fault, Compares}
-use Rattle.suite.proofs.Turns.{fine, faultless_in_range}
+use Rattle.suite.specs.Steps.{plan_fault, Compares}
+use Rattle.suite.proofs.Turns.{fine}
 
 pub compares : (rows after : List ℕ) (doors : ℕ) (cs : List Change) (t : TwoPlans) → length rows ≤ 64 → doors ≤ 64 → length after ≡ length rows → after ≡ carried_out cs rows
     → before_rows t ≡ take (shared_count rows after) rows → after_rows t ≡ take (shared_count rows after) after → two_doors t ≡ min doors 64 → Compares doors rows cs t

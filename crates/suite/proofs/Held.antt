@@ -1,6 +1,6 @@
 -- Loops over groups: whether they are held, and copying them over a list.
-use Rattle.std.proofs.Common.{◌≡◌, ℕ, ◌+◌, ◌<◌, ◌≤◌, Bool, true, false, ◌&&◌, ◌||◌, List, [], ◌∷◌, ◌++◌, length, get_or, take, drop, set, sym, ap, ◌∙◌, append_assoc, arith}
-use Rattle.std.proofs.lemmas.List.{set_at, take_more, drop_more, take_all, length-take-le, at_drop_more, at_drop_all}
+use Rattle.std.proofs.Common.{◌≡◌, ℕ, ◌+◌, ◌<◌, ◌≤◌, true, false, ◌&&◌, ◌||◌, List, [], ◌∷◌, ◌++◌, length, get_or, take, drop, set, sym, ap, ◌∙◌, append_assoc, arith}
+use Rattle.std.proofs.lemmas.List.{set_at, take_more, drop_more, take_all, length-take-le, at_drop_more}
 use Rattle.table.specs.Sets.{has}
 use Rattle.groups.specs.declared.group.Group.{Group}
 use Rattle.groups.specs.Orders.{group_before}

@@ -13,16 +13,15 @@ use Rattle.groups.specs.declared.group.Group.{Group}
 use Rattle.groups.specs.Orders.{group_before}
 use Rattle.groups.specs.Lists.{carried_out, additions_in, removals_out, new_groups_of, lapsed_groups_of}
 use Rattle.difference.specs.declared.two.TwoPlans.{TwoPlans}
-use Rattle.difference.specs.Both.{before_rows, after_rows, two_doors}
+use Rattle.difference.specs.Both.{after_rows, two_doors}
 use Rattle.registers.specs.Meaning.{entered_run, entered_left, struck_run, struck_left}
 use Rattle.ledger.specs.Ledger.{Ledger, additions, removals, first_of, changes_fault, list_capacity, out_of_step, wants, spare_after, unless, counted, arising, lapsing, book_answer, booked, over}
-use Rattle.ledger.specs.Calls.{booked_if, over_if}
 use Rattle.ledger.specs.Laws.{AscendingGroups}
 use Rattle.ledger.proofs.Bookings.{arising_ascends, lapsing_ascends}
 use Rattle.suite.specs.Bookings.{Booking, Ready, Fits}
-use Rattle.suite.specs.Steps.{plan_fault, coming, going, lists_answer, Roomy, Begins, Compares, Removable, Addable}
+use Rattle.suite.specs.Steps.{plan_fault, coming, going, lists_answer, Roomy, Begins, Compares, Addable}
 use Rattle.ledger.proofs.Refusals.{past}
-use Rattle.suite.proofs.Batches.{batch_removable, batch_addable}
+use Rattle.suite.proofs.Batches.{batch_addable}
 use Rattle.suite.proofs.Runs.{follow_held, follow_spare}
 use Rattle.suite.proofs.Turns.{first_none}
 

@@ -1,5 +1,5 @@
 -- One call, and one turn of a loop that makes each call in its place.
-use Rattle.std.proofs.Common.{◌≡◌, ℕ, ◌+◌, ◌<◌, ◌≤◌, Bool, true, List, [], ◌∷◌, ◌++◌, map, length, get_or, take, drop, set, Some, Option, Result, sym, refl, ap, ◌∙◌, subst, append_assoc, arith}
+use Rattle.std.proofs.Common.{◌≡◌, ℕ, ◌+◌, ◌<◌, ◌≤◌, List, [], ◌∷◌, ◌++◌, map, length, get_or, take, drop, set, Some, Option, Result, sym, ap, ◌∙◌, subst, append_assoc, arith}
 use Rattle.std.proofs.lemmas.List.{take_more_set, drop_more, drop-set-lt, map_push, take_all, drop_all, append-nil}
 use Rattle.faults.specs.declared.cause.Cause.{Cause}
 use Rattle.pairs.specs.declared.change.Change.{Change}
@@ -7,7 +7,7 @@ use Rattle.groups.specs.declared.group.Group.{Group}
 use Rattle.ledger.specs.Ledger.{Ledger, arising, lapsing}
 use Rattle.ledger.specs.Calls.{Seen, booking, batch_of, booked_if, over_if, next, reply, after, replies}
 use Rattle.ledger.specs.Copies.{copied, SoundCopy, booked_batches, all_carried_out, changed_groups}
-use Rattle.ledger.specs.Laws.{AscendingGroups, InStep, Follows}
+use Rattle.ledger.specs.Laws.{AscendingGroups, InStep}
 use Rattle.ledger.proofs.Follows.{follows}
 use Rattle.suite.specs.declared.calls.Call.{Call}
 use Rattle.suite.specs.Law.{Kept, Booked}

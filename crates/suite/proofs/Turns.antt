@@ -5,7 +5,6 @@ use Rattle.std.proofs.lemmas.Bool.{and_parts, and_from, true≢false}
 use Rattle.std.proofs.lemmas.Bool.Decides.{nat_tests}
 use Rattle.numbers.specs.Numbers.{number_answer}
 use Rattle.faults.specs.declared.cause.Cause.{Cause}
-use Rattle.faults.specs.Causes.{told}
 use Rattle.pairs.specs.declared.change.Change.{Change}
 use Rattle.batch.specs.Changes.{in_range}
 use Rattle.groups.specs.Lists.{withdrawn, permitted, removals_out, additions_in}

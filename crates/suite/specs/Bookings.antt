@@ -1,5 +1,5 @@
 -- What a booking leaves: its answer, the ledger of plan and register, and the two lists.
-use Rattle.std.specs.Prelude.{◌≡◌, ℕ, ◌+◌, ◌≤◌, List, length, None, Ok, Result}
+use Rattle.std.specs.Prelude.{◌≡◌, ℕ, List, length, None, Ok, Result}
 use Rattle.faults.specs.declared.cause.Cause.{Cause}
 use Rattle.pairs.specs.declared.change.Change.{Change}
 use Rattle.pairs.specs.Orders.{before_by_pair}

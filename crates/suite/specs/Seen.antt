@@ -1,5 +1,5 @@
 -- A call as the ledger sees it.
-use Rattle.std.specs.Prelude.{ℕ, Some, None, vec_items, Option, Result}
+use Rattle.std.specs.Prelude.{Some, None, vec_items, Option, Result}
 use Rattle.faults.specs.declared.cause.Cause.{Cause}
 use Rattle.faults.specs.Causes.{told}
 use Rattle.faults.specs.Faults.{booking_cause, number_cause}

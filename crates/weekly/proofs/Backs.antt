@@ -10,7 +10,7 @@ use Rattle.batch.specs.Changes.{in_range}
 use Rattle.faults.specs.declared.cause.Cause.{Cause}
 use Rattle.weekly.proofs.Merges.{up_by_pair}
 use Rattle.weekly.specs.declared.layout.Layout.{Layout}
-use Rattle.weekly.specs.Body.{and_then, pair_number, pair_ok, pairs_fault, note_byte, is_bad_byte, byte_fault, text_fault, apart_fault, both_fault, bodies_fault, added_bytes, note_bytes, removed_bytes}
+use Rattle.weekly.specs.Body.{and_then, pair_number, pair_ok, pairs_fault, note_byte, first_bad_byte, byte_fault, text_fault, apart_fault, both_fault, bodies_fault, added_bytes, note_bytes, removed_bytes}
 use Rattle.weekly.specs.Marks.{same, bytes_of}
 use Rattle.weekly.specs.Head.{two_bytes, is_entry_ok, with_a_body, entries, bodies_start, bodies_end, ended, layout_of}
 use Rattle.weekly.specs.File.{entry_of, present, entry_count, plan_of, added_entry, note_entry, removed_entry, head_of, file_with, file_of}
@@ -86,12 +86,12 @@ cond_fine : (t : Bool) (o : Option ℕ) (p : ℕ) → cond t o (Some p) ≡ None
 cond_fine true o p e = (refl, e)
 cond_fine false o p e = let z : ◌≡◌ {A = ℕ} 0 1 = cc in absurd (omega arith)
 
-pub none_bad : (p place : ℕ) (ns : List ℕ) → is_bad_byte p ns ≡ None → is_bad_byte place ns ≡ None
-unfolding is_bad_byte
+pub none_bad : (p place : ℕ) (ns : List ℕ) → first_bad_byte p ns ≡ None → first_bad_byte place ns ≡ None
+unfolding first_bad_byte
 none_bad p place [] e = refl
 none_bad p place (b ∷ ns) e = let c = cond_fine (note_byte b) _ _ e in cond-true _ _ _ c.0 ∙ none_bad (p + 1) (place + 1) ns c.1
 
-text_good : (p place : ℕ) (ns : List ℕ) → is_bad_byte p ns ≡ None → text_fault place ns ≡ Ok tt
+text_good : (p place : ℕ) (ns : List ℕ) → first_bad_byte p ns ≡ None → text_fault place ns ≡ Ok tt
 text_good p place ns e = ap (λ (z : Option ℕ). byte_fault 24 z) (none_bad p place ns e)
 
 -- ---- no pair in both

@@ -2,7 +2,7 @@
 use Rattle.std.proofs.Common.{◌≡◌, ℕ, ◌+◌, ◌-◌, ◌<◌, ◌≤◌, cond, ◌&&◌, eqb, List, [], ◌∷◌, length, get_or, take, drop, Some, None, Ok, Err, refl, arith}
 use Rattle.std.proofs.lemmas.List.{take_rest}
 use Rattle.faults.specs.Causes.{along}
-use Rattle.weekly.specs.Body.{and_then, pair_number, pair_ok, pairs_fault, note_byte, is_bad_byte, apart_fault, both_fault}
+use Rattle.weekly.specs.Body.{and_then, pair_number, pair_ok, pairs_fault, note_byte, first_bad_byte, apart_fault, both_fault}
 
 -- too short for a pair
 pub pairs_none : (low place : ℕ) (bs : List ℕ) → length bs < 2 → pairs_fault low place bs ≡ Ok tt
@@ -23,8 +23,8 @@ both_none place rs [] h = refl
 both_none place rs (x ∷ []) h = refl
 both_none place rs (x ∷ y ∷ rest) h = absurd (omega arith)
 
-pub bad_none : (place : ℕ) (bs : List ℕ) → length bs < 1 → is_bad_byte place bs ≡ None
-unfolding is_bad_byte
+pub bad_none : (place : ℕ) (bs : List ℕ) → length bs < 1 → first_bad_byte place bs ≡ None
+unfolding first_bad_byte
 bad_none place [] h = refl
 bad_none place (x ∷ rest) h = absurd (omega arith)
 
@@ -50,8 +50,8 @@ both_more place rs [] h = absurd (omega arith)
 both_more place rs (x ∷ []) h = absurd (omega arith)
 both_more place rs (x ∷ y ∷ rest) h = rw (take_rest (x ∷ y ∷ rest) 2) refl
 
-pub bad_more : (place : ℕ) (bs : List ℕ) → 1 ≤ length bs → is_bad_byte place bs ≡
-    cond (note_byte (get_or bs 0 0)) (is_bad_byte (place + 1) (take (length bs - 1) (drop 1 bs))) (Some place)
-unfolding is_bad_byte
+pub bad_more : (place : ℕ) (bs : List ℕ) → 1 ≤ length bs → first_bad_byte place bs ≡
+    cond (note_byte (get_or bs 0 0)) (first_bad_byte (place + 1) (take (length bs - 1) (drop 1 bs))) (Some place)
+unfolding first_bad_byte
 bad_more place [] h = absurd (omega arith)
 bad_more place (b ∷ rest) h = rw (take_rest (b ∷ rest) 1) refl

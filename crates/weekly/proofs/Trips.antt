@@ -9,7 +9,7 @@ use Rattle.batch.specs.Changes.{in_range}
 use Rattle.weekly.specs.declared.layout.Layout.{Layout}
 use Rattle.weekly.specs.declared.reading.Reading.{Reading}
 use Rattle.weekly.specs.Head.{Sized}
-use Rattle.weekly.specs.Body.{is_bad_byte, byte_fault, added_bytes, note_bytes, removed_bytes}
+use Rattle.weekly.specs.Body.{first_bad_byte, byte_fault, added_bytes, note_bytes, removed_bytes}
 use Rattle.weekly.specs.Marks.{bytes_of, marked, merged}
 use Rattle.weekly.specs.File.{plan_of, file_with, file_of}
 use Rattle.weekly.specs.Read.{with_room, judged, change_count, place_of_note, reading_of, file_changes, file_note}
@@ -92,7 +92,7 @@ module _ (f : List ℕ) (g : Layout) (bytes : Bytes f) (is : judged f ≡ Ok g) 
       let n = note_is f g is in
       let l = ap length n ∙ part_length f (g.first + g.added) g.note (omega (arith, sized)) in
       let k = (layout_kept f g (judged_ok f g is).0).note in
-      record { short = omega arith; plain = ap (is_bad_byte 0) n ∙ none_bad _ 0 (note_bytes f g) (no_fault 24 _ (judged_ok f g is).1.text) }
+      record { short = omega arith; plain = ap (first_bad_byte 0) n ∙ none_bad _ 0 (note_bytes f g) (no_fault 24 _ (judged_ok f g is).1.text) }
 
   own_count : change_count g ≡ length (file_changes f)
   own_count =

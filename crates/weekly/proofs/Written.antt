@@ -7,7 +7,7 @@ use Rattle.faults.specs.declared.cause.Cause.{Cause}
 use Rattle.faults.specs.Causes.{bare, along}
 use Rattle.weekly.specs.declared.layout.Layout.{Layout}
 use Rattle.weekly.specs.Head.{bodies_end}
-use Rattle.weekly.specs.Body.{and_then, is_bad_byte, byte_fault}
+use Rattle.weekly.specs.Body.{and_then, first_bad_byte, byte_fault}
 use Rattle.weekly.specs.Marks.{bytes_of}
 use Rattle.weekly.specs.File.{entry_of, present, entry_count, plan_of, added_entry, note_entry, removed_entry, head_of, file_with, file_of, write_answer, over, Wrote}
 use Rattle.weekly.proofs.Pastes.{wrote_more, wrote_length}
@@ -52,22 +52,22 @@ pub write_long : (cs : List Change) (note : List ℕ) (room : ℕ) → 200 < len
 unfolding write_answer
 write_long cs note room h = cond-true _ _ _ (lt-ltb 200 (length note) h)
 
-write_noted : (cs : List Change) (note : List ℕ) (room : ℕ) (o : Option ℕ) → length note ≤ 200 → o ≡ is_bad_byte 0 note
+write_noted : (cs : List Change) (note : List ℕ) (room : ℕ) (o : Option ℕ) → length note ≤ 200 → o ≡ first_bad_byte 0 note
     → write_answer cs note room ≡ and_then (byte_fault 27 o) (cond (ltb room (length (file_of cs note))) (Err (bare 28)) (Ok (length (file_of cs note))))
 unfolding write_answer
 write_noted cs note room o h e =
     cond-false _ _ _ (le-ltb 200 (length note) h) ∙ ap (λ (z : Option ℕ). and_then (byte_fault 27 z) (cond (ltb room (length (file_of cs note))) (Err (bare 28)) (Ok (length (file_of cs note))))) (sym e)
 
-pub write_bad : (cs : List Change) (note : List ℕ) (room : ℕ) (p : ℕ) → length note ≤ 200 → Some p ≡ is_bad_byte 0 note → write_answer cs note room ≡ Err (along 27 p)
+pub write_bad : (cs : List Change) (note : List ℕ) (room : ℕ) (p : ℕ) → length note ≤ 200 → Some p ≡ first_bad_byte 0 note → write_answer cs note room ≡ Err (along 27 p)
 write_bad cs note room p h e = write_noted cs note room (Some p) h e
 
-pub write_short : (cs : List Change) (note : List ℕ) (room : ℕ) → length note ≤ 200 → None ≡ is_bad_byte 0 note → room < length (file_of cs note) → write_answer cs note room ≡ Err (bare 28)
+pub write_short : (cs : List Change) (note : List ℕ) (room : ℕ) → length note ≤ 200 → None ≡ first_bad_byte 0 note → room < length (file_of cs note) → write_answer cs note room ≡ Err (bare 28)
 write_short cs note room h e l = write_noted cs note room None h e ∙ cond-true _ _ _ (lt-ltb room (length (file_of cs note)) l)
 
 abbrev fine : ℕ → Result ℕ Cause
 fine z = Ok z
 
-pub write_done : (cs : List Change) (note : List ℕ) (room n : ℕ) → length note ≤ 200 → None ≡ is_bad_byte 0 note → n ≤ room → length (file_of cs note) ≡ n → write_answer cs note room ≡ Ok n
+pub write_done : (cs : List Change) (note : List ℕ) (room n : ℕ) → length note ≤ 200 → None ≡ first_bad_byte 0 note → n ≤ room → length (file_of cs note) ≡ n → write_answer cs note room ≡ Ok n
 write_done cs note room n h e l q =
     write_noted cs note room None h e ∙ (cond-false _ _ _ (le-ltb room (length (file_of cs note)) (omega (arith, l, q))) ∙ ap (λ (z : ℕ). fine z) q)
 

@@ -28,9 +28,9 @@ abbrev pub note_byte : ℕ → Bool
 note_byte b = nat_le 32 b && nat_le b 126
 
 -- the place of the first byte of a note that is not such a byte, the first of them at `place`
-unfoldable pub is_bad_byte : ℕ → List ℕ → Option ℕ
-is_bad_byte place [] = None
-is_bad_byte place (b ∷ rest) = cond (note_byte b) (is_bad_byte (place + 1) rest) (Some place)
+unfoldable pub first_bad_byte : ℕ → List ℕ → Option ℕ
+first_bad_byte place [] = None
+first_bad_byte place (b ∷ rest) = cond (note_byte b) (first_bad_byte (place + 1) rest) (Some place)
 
 -- no bad byte, or the cause of this number with its place
 abbrev pub byte_fault : ℕ → Option ℕ → Result Unit Cause
@@ -39,7 +39,7 @@ byte_fault number (Some place) = Err (along number place)
 
 -- the note of a file, which starts at `place`. 24: its first bad byte
 abbrev pub text_fault : ℕ → List ℕ → Result Unit Cause
-text_fault place ns = byte_fault 24 (is_bad_byte place ns)
+text_fault place ns = byte_fault 24 (first_bad_byte place ns)
 
 -- the pair (k, d) does not stand in the removals, which start at `place`. 25: where it does
 unfoldable pub apart_fault : ℕ → ℕ → ℕ → List ℕ → Result Unit Cause

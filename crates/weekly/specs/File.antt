@@ -5,7 +5,7 @@ use Rattle.faults.specs.declared.cause.Cause.{Cause}
 use Rattle.faults.specs.Causes.{bare, along}
 use Rattle.weekly.specs.declared.layout.Layout.{Layout}
 use Rattle.weekly.specs.Head.{opening_bytes}
-use Rattle.weekly.specs.Body.{and_then, is_bad_byte, byte_fault}
+use Rattle.weekly.specs.Body.{and_then, first_bad_byte, byte_fault}
 use Rattle.weekly.specs.Marks.{bytes_of}
 
 -- a contents entry: the letter, the start and the length, low byte first; an empty body has none
@@ -51,7 +51,7 @@ file_of cs note = file_with (bytes_of true cs) note (bytes_of false cs)
 unfoldable pub write_answer : List Change → List ℕ → ℕ → Result ℕ Cause
 write_answer cs note room =
     cond (nat_lt 200 (length note)) (Err (along 27 200))
-    (and_then (byte_fault 27 (is_bad_byte 0 note)) (cond (nat_lt room (length (file_of cs note))) (Err (bare 28)) (Ok (length (file_of cs note)))))
+    (and_then (byte_fault 27 (first_bad_byte 0 note)) (cond (nat_lt room (length (file_of cs note))) (Err (bare 28)) (Ok (length (file_of cs note)))))
 
 -- a list with bytes written over it from a place on
 abbrev pub pasted : ℕ → List ℕ → List ℕ → List ℕ

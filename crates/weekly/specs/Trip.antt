@@ -5,7 +5,7 @@ use Rattle.pairs.specs.Orders.{before_by_pair}
 use Rattle.table.specs.Rows.{Ascends}
 use Rattle.batch.specs.Changes.{in_range}
 use Rattle.weekly.specs.declared.reading.Reading.{Reading}
-use Rattle.weekly.specs.Body.{is_bad_byte}
+use Rattle.weekly.specs.Body.{first_bad_byte}
 use Rattle.weekly.specs.Marks.{bytes_of}
 use Rattle.weekly.specs.File.{plan_of, file_of, write_answer}
 use Rattle.weekly.specs.Read.{place_of_note, read_answer, file_changes, file_note}
@@ -19,7 +19,7 @@ pub record GoodBatch (cs : List Change) : Type 0 where
 -- a note of at most 200 bytes, each 32 to 126
 pub record GoodNote (ns : List ℕ) : Type 0 where
   pub short : length ns ≤ 200
-  pub plain : is_bad_byte 0 ns ≡ None
+  pub plain : first_bad_byte 0 ns ≡ None
 
 -- bytes are below 256
 abbrev pub Bytes : List ℕ → Type 0

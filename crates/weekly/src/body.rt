@@ -2,7 +2,7 @@
 ghost use Rattle.std.specs.Prelude.{◌≡◌, ◌+◌, ◌^◌, ◌<◌, length};
 ghost use Rattle.faults.specs.Causes.{told};
 ghost use Rattle.faults.specs.Faults.{file_cause};
-ghost use Rattle.weekly.specs.Body.{pair_ok, pairs_fault, is_bad_byte, text_fault, apart_fault, both_fault, bodies_fault};
+ghost use Rattle.weekly.specs.Body.{pair_ok, pairs_fault, first_bad_byte, text_fault, apart_fault, both_fault, bodies_fault};
 
 use faults::weekly::FileFault;
 
@@ -30,7 +30,7 @@ fn pairs(body: &[u8], place: usize, low: usize) -> Result<(), FileFault>
 // The place of the first byte of a note that is not 32 to 126, if there is one. The note starts at `place`.
 pub(crate) fn bad_byte(note: &[u8], place: usize) -> Option<usize>
     requires { place + length note.now < 2 ^ 32 }
-    ensures { result ≡ is_bad_byte place note.now }
+    ensures { result ≡ first_bad_byte place note.now }
 {
     let [b, rest @ ..] = note else {
         return None;

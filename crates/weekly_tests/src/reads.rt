@@ -62,7 +62,7 @@ fn a_file_is_read(rt: HostRuntime) -> Result<(), Fail> {
             return Err(Fail::new("refused"));
         }
     }
-    assert!(rt; note(&WEEK) == b"Week 12");
+    assert!(rt; note(&WEEK) == b"Week 12".as_slice());
     let batch = draft.close();
     assert_eq!(rt; batch.get(0), Some(change(1, 0, true)));
     assert_eq!(rt; batch.get(1), Some(change(3, 40, false)));
@@ -115,7 +115,7 @@ fn drafts_that_do_not_take_it(rt: HostRuntime) {
     let mut memory = [NONE; 2];
     let mut draft = Draft::new(&mut memory);
     assert_eq!(rt; answer(&WEEK, &mut draft), (11, 2));
-    assert!(rt; note(&WEEK) == b"Week 12");
+    assert!(rt; note(&WEEK) == b"Week 12".as_slice());
     assert!(rt; draft.put(change(9, 9, true)).is_ok());
     assert_eq!(rt; answer(&WEEK, &mut draft), (26, 0));
     assert_eq!(rt; answer(b"", &mut draft), (26, 0));

@@ -1,4 +1,4 @@
-use Rattle.std.proofs.Common.{ℕ, ◌≤◌, length, arith}
+use Rattle.std.proofs.Common.{length, arith}
 use Rattle.suite.specs.Of.{ledger}
 use Rattle.suite.proofs.Judged.{found_fits}
 use Rattle.suite.proofs.book.book_compared.Goals as goal

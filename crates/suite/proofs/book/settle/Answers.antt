@@ -1,4 +1,3 @@
-use Rattle.std.proofs.Common.{◌≡◌, length, sym, refl, ap, ◌∙◌}
 use Rattle.suite.specs.Of.{ledger}
 use Rattle.suite.proofs.Batches.{batch_removable}
 use Rattle.suite.proofs.Judged.{no_faults, settled_20, settled_13, settled_addable, settled}

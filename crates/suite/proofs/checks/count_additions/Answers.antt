@@ -1,4 +1,4 @@
-use Rattle.std.proofs.Common.{◌≡◌, ℕ, ◌+◌, cond, get_or, sym, ap, ◌∙◌, arith}
+use Rattle.std.proofs.Common.{◌≡◌, ℕ, cond, get_or, ap, arith}
 use Rattle.suite.proofs.Turns.{blank, count_more, count_all, additions_removals}
 use Rattle.suite.proofs.checks.count_additions.Goals as goal
 use Rattle.suite.proofs.checks.count_additions.Goals.{then-change, else-change}

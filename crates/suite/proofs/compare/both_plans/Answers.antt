@@ -1,4 +1,4 @@
-use Rattle.std.proofs.Common.{◌≡◌, ℕ, List, length, sym, ap, ◌∙◌}
+use Rattle.std.proofs.Common.{length, ap, ◌∙◌}
 use Rattle.groups.specs.Lists.{carried_out}
 use Rattle.suite.proofs.Compares.{compares}
 use Rattle.suite.proofs.compare.both_plans.Goals as goal

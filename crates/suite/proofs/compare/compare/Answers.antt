@@ -1,4 +1,4 @@
-use Rattle.std.proofs.Common.{◌≡◌, ℕ, ◌-◌, ◌≤◌, List, length, take, sym, ap, ◌∙◌, subst, arith}
+use Rattle.std.proofs.Common.{◌-◌, take, subst, arith}
 use Rattle.suite.specs.Steps.{Compares}
 use Rattle.suite.proofs.Compares.{table_rows, table_keys, faultless, plan_fine}
 use Rattle.suite.proofs.Turns.{faultless_in_range}

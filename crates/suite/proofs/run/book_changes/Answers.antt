@@ -1,11 +1,8 @@
-use Rattle.std.proofs.Common.{◌≡◌, List, length, sym, refl, ap, ◌∙◌, arith}
-use Rattle.faults.specs.Causes.{told}
-use Rattle.faults.specs.Faults.{booking_cause}
+use Rattle.std.proofs.Common.{refl, ap, ◌∙◌}
 use Rattle.batch.specs.Changes.{capacity_of}
 use Rattle.batch.specs.Drafts.{changes, memory_of, closed_changes}
 use Rattle.suite.specs.Of.{ledger}
 use Rattle.suite.proofs.Fills.{changes_booked}
-use Rattle.suite.proofs.Turns.{blank}
 use Rattle.suite.proofs.run.book_changes.Goals as goal
 
 pub returns : goal.returns

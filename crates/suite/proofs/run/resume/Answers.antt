@@ -1,4 +1,4 @@
-use Rattle.std.proofs.Common.{◌≡◌, ℕ, ◌<◌, ◌≤◌, List, map, length, sym, ap, ◌∙◌, arith}
+use Rattle.std.proofs.Common.{◌<◌, ◌≤◌, map, length, sym, ◌∙◌, arith}
 use Rattle.suite.specs.Of.{ledger}
 use Rattle.suite.specs.Seen.{seen}
 use Rattle.suite.proofs.Made.{after_more, replies_more, after_all, replies_all, law}
