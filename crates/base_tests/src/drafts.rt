@@ -8,10 +8,7 @@ fn change(key: u8, door: u8, added: bool) -> Change {
 
 // The cause for which a put is refused, or none.
 fn refusal(draft: &mut Draft, c: Change) -> Option<Cause> {
-    match draft.put(c) {
-        Ok(()) => None,
-        Err(fault) => Some(fault.cause()),
-    }
+    draft.put(c).err().map(|fault| fault.cause())
 }
 
 fn cause(number: u8, value: Option<usize>) -> Option<Cause> {

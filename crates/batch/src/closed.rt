@@ -10,24 +10,20 @@ impl<'a> Closed<'a> {
     pub fn count(&self) -> usize
         ensures { result ≡ length (closed_changes self.now) }
     {
-        self.count
+        self.rows.count()
     }
 
     // The change at an index in ascending order, or none.
     pub fn get(&self, i: usize) -> Option<Change>
         ensures { result ≡ slice_get (closed_changes self.now) i }
     {
-        if i < self.count {
-            Some(self.memory[i])
-        } else {
-            None
-        }
+        self.changes().get(i).copied()
     }
 
     // The changes, ascending.
     pub fn changes(&self) -> &[Change]
         ensures { result.now ≡ closed_changes self.now }
     {
-        &self.memory[0..self.count]
+        self.rows.changes()
     }
 }

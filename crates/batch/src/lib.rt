@@ -6,3 +6,4 @@ pub mod closed;
 pub mod draft;
 pub mod lent;
 pub mod put;
+mod rows;

@@ -1,5 +1,5 @@
 -- What asks whether a group was found before: the keys or doors that can touch it, one by one.
-use Rattle.std.proofs.Common.{◌≡◌, ℕ, ◌+◌, ◌-◌, ◌^◌, ◌<◌, ◌≤◌, List, length, get_or, sym, subst, ⊎_elim, arith}
+use Rattle.std.proofs.Common.{◌≡◌, ℕ, ◌+◌, ◌^◌, ◌<◌, ◌≤◌, List, length, get_or, sym, ap, subst, ⊎_elim, arith}
 use lib.Bits.{bit_and, bit_or}
 use Rattle.std.proofs.lemmas.Bool.{cases_eq}
 use Rattle.masks.specs.Masks.{Has, first_set}
@@ -8,9 +8,9 @@ use Rattle.masks.proofs.Joins.{first_has, first_only}
 use Rattle.groups.specs.declared.group.Group.{Group}
 use Rattle.groups.specs.Plans.{Opens, IsGroup}
 use Rattle.search.specs.Nodes.{Shares}
-use Rattle.search.proofs.Peels.{Peeled}
-use Rattle.difference.specs.Changes.{ColumnTouches, KeyTouches, Losing, Shared}
-use Rattle.difference.proofs.Marks.{and_lt, no_has, only_is}
+use Rattle.masks.proofs.Ascending.{Peeled}
+use Rattle.difference.specs.Changes.{ColumnTouches, KeyTouches, Losing, OnlyIn, Shared}
+use Rattle.difference.proofs.Marks.{no_has}
 
 -- ---- the rows that lost something
 module _ (bs rs : List ℕ) (n k set : ℕ) (l : Losing bs rs n k set) where
@@ -19,23 +19,24 @@ module _ (bs rs : List ℕ) (n k set : ℕ) (l : Losing bs rs n k set) where
       subst (λ (w : ℕ). Has (bit_or set w) i) (sym e)
       (⊎_elim (λ (q : i ≡ k). subst (Has (bit_or set (2 ^ k))) (sym q) (has_more_same set k)) (λ ne. has_more set k i (l i d (omega arith) ld o ab)) (cases_eq i k))
 
-  pub losing_same : (f : ℕ) → get_or bs k 0 < 2 ^ 64 → get_or rs k 0 < 2 ^ 64 → n ≤ 64 → f ≡ first_set n → bit_and (bit_and (get_or bs k 0) (2 ^ 64 - 1 - get_or rs k 0)) f ≡ 0
-      → Losing bs rs n (k + 1) set
-  losing_same f fb fr few e z i d li ld o ab =
-      let q = only_is (get_or bs k 0) (get_or rs k 0) n f fb fr few e in
-      ⊎_elim (λ (q' : i ≡ k). absurd (no_has (bit_and (bit_and (get_or bs k 0) (2 ^ 64 - 1 - get_or rs k 0)) f) d z
-      (q.all d ld (subst (λ (j : ℕ). Opens bs j d) q' o) (λ h. ab (subst (λ (j : ℕ). Opens rs j d) (sym q') h)))))
+  pub losing_same : (r : ℕ) → OnlyIn (get_or bs k 0) (get_or rs k 0) n r → r ≡ 0 → Losing bs rs n (k + 1) set
+  losing_same r q z i d li ld o ab =
+      ⊎_elim (λ (e : i ≡ k). absurd (no_has r d z (q.all d ld (subst (λ (j : ℕ). Opens bs j d) e o) (λ h. ab (subst (λ (j : ℕ). Opens rs j d) (sym e) h)))))
       (λ ne. l i d (omega arith) ld o ab) (cases_eq i k)
+
+-- the same of lists that are these
+pub losing_at : {bs bs' rs rs' : List ℕ} {n m : ℕ} (set : ℕ) → bs' ≡ bs → rs' ≡ rs → length bs ≡ m → Losing bs' rs' n (length bs') set → Losing bs rs n m set
+losing_at {bs} {bs'} {rs} {rs'} set e f l h k d lk ld o ab =
+    h k d (omega (arith, ap (length {A = ℕ}) e, l)) ld (subst (λ (z : List ℕ). Opens z k d) (sym e) o) (λ q. ab (subst (λ (z : List ℕ). Opens z k d) f q))
 
 -- ---- those that are left to ask
 pub record Asking (P : ℕ → Type 0) (set u rest : ℕ) : Type 0 where
   pub all : (k : ℕ) → k < u → P k → Has rest k
   pub part : (k : ℕ) → Has rest k → Has set k × (k < u)
-  pub small : rest < 2 ^ 64
 
-pub asking_all : (P : ℕ → Type 0) (set changed u f : ℕ) → set < 2 ^ 64 → u ≤ 64 → f ≡ first_set u → ((k : ℕ) → k < u → P k → Has set k × Has changed k)
+pub asking_all : (P : ℕ → Type 0) (set changed u f : ℕ) → u ≤ 64 → f ≡ first_set u → ((k : ℕ) → k < u → P k → Has set k × Has changed k)
     → Asking P set u (bit_and (bit_and set changed) f)
-asking_all P set changed u f s few e can =
+asking_all P set changed u f few e can =
     record {
       all = λ k l p.
           has_and (bit_and set changed) f k (has_and set changed k (can k l p).0 (can k l p).1) (subst (λ (v : ℕ). Has v k) (sym e) (first_has u k (omega arith)));
@@ -43,8 +44,10 @@ asking_all P set changed u f s few e can =
           let a = and_has (bit_and set changed) f k h in
           let q = first_only u k (subst (λ (v : ℕ). Has v k) e a.1) in
           ((and_has set changed k a.0).0, omega arith);
-      small = and_lt (bit_and set changed) f (and_lt set changed s);
     }
+
+pub asking_at : {P : ℕ → Type 0} {set u rest now : ℕ} → now ≡ rest → Asking P set u rest → Asking P set u now
+asking_at {P} {set} {u} e a = subst (Asking P set u) (sym e) a
 
 module _ {P : ℕ → Type 0} {set u rest : ℕ} (a : Asking P set u rest) where
   pub asking_next : {j r : ℕ} → Peeled rest j r → (P j → ⊥) → Asking P set u r
@@ -52,7 +55,6 @@ module _ {P : ℕ → Type 0} {set u rest : ℕ} (a : Asking P set u rest) where
       record {
         all = λ k l t. ⊎_elim (λ (e : k ≡ j). absurd (n (subst P e t))) (λ h. h) (p.split k (a.all k l t));
         part = λ k h. a.part k (p.part k h);
-        small = omega (arith, p.falls, a.small);
       }
 
   pub asking_none : rest ≡ 0 → ((k : ℕ) × (k < u) × P k) → ⊥

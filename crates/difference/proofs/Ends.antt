@@ -1,13 +1,14 @@
 -- The list in the table, as the public functions state it.
 use Rattle.std.proofs.Common.{◌≡◌, ℕ, ◌+◌, ◌-◌, ◌/◌, ◌<◌, ◌≤◌, min, leb, List, ◌++◌, length, take, drop, Some, None, Option, sym, ap, ◌∙◌, subst, ⊎_elim, arith, length-append}
+use borrow.Rule.Slice.PartMut.{mid_of, put_mid}
 use Rattle.std.specs.List.{between}
-use Rattle.std.proofs.lemmas.List.{ext_get_or, get_or_append_left, get_or-take, length-take, length-drop, drop-append-le, take-append-le, nil_from_length}
+use Rattle.std.proofs.lemmas.List.{ext_get_or, get_or_append_left, get_or-take, length-take, length-drop, drop_at, length-take-le, take-append-le, nil_from_length}
 use Rattle.std.proofs.lemmas.Bool.{cases_lt, cond-true, cond-false, le-leb, lt-leb}
 use Rattle.groups.specs.declared.group.Group.{Group}
 use Rattle.groups.specs.Lists.{new_groups_of}
 use Rattle.groups.specs.Plans.{New, Listing, nothing}
 use Rattle.groups.proofs.Minus.{new_listing, only_new}
-use Rattle.difference.specs.Places.{room_for, Written, Listed, Same, at}
+use Rattle.difference.specs.Places.{room_for, Written, Listed, Same}
 use Rattle.difference.proofs.Counting.{more_listed}
 
 module _ (bs rs : List ℕ) (D : ℕ) (T T' : List Group) (from start limit lim : ℕ) (long : length T' ≡ length T)
@@ -50,7 +51,7 @@ module _ (bs rs : List ℕ) (D : ℕ) (T T' : List Group) (from start limit lim 
         ap (λ (n : ℕ). take n (drop from T')) list_long ∙ ap (λ (n : ℕ). take (end - start) (drop n T')) (sym e) ∙ is_list)
         (cases_lt (length T) from)
 
-    pub all_listed : Written list T T' from limit (Some (from + (end - start)))
+    all_listed : Written list T T' from limit (Some (from + (end - start)))
     all_listed =
         let e : from + (end - start) ≡ from + length list = ap (λ (n : ℕ). from + n) (sym list_long) in
         record {
@@ -59,23 +60,39 @@ module _ (bs rs : List ℕ) (D : ℕ) (T T' : List Group) (from start limit lim 
           written = λ _. places;
         }
 
--- a list in the first n places of a table
-module _ (T p' : List Group) (n start lim : ℕ) (ln : n ≤ length T) (lp : length p' ≡ n) (ls : start ≤ n) where
-  part : (c : ℕ) → start ≤ c → c ≤ length p' → between start c (p' ++ drop n T) ≡ between start c p'
-  part c l h =
-      ap (take {A = Group} (c - start)) (drop-append-le start p' (drop n T) (omega arith))
-      ∙ take-append-le (c - start) (drop start p') (drop n T) (omega (arith, length-drop start p'))
+  pub so_many : (c : ℕ) → Listed (New bs rs D) T T' start lim (Some (start + c)) → Written list T T' from limit (Some (from + c))
+  so_many c h = subst (λ (n : ℕ). Written list T T' from limit (Some (from + n))) (let e : start + c - start ≡ c = omega arith in e) (all_listed (start + c) h)
 
-  front_kept : ((i : ℕ) → i < start → at p' i ≡ at (take n T) i) → (i : ℕ) → i < start → at (p' ++ drop n T) i ≡ at T i
-  front_kept k i l = get_or_append_left p' (drop n T) nothing i (omega arith) ∙ k i l ∙ get_or-take n T i nothing (omega arith)
+-- a list in the first of k places of a table, from `start` on
+module _ (T p : List Group) (start k lim : ℕ) (room : start + k ≤ length T) (long : length p ≡ k) where
+  abbrev last : List Group
+  last = drop k (drop start T)
 
-  pub widened : {P : Group → Type 0} (r : Option ℕ) → Listed P (take n T) p' start lim r → Listed P T (p' ++ drop n T) start lim r
-  widened {P} None h = record { kept = front_kept h.kept; result = h.result }
-  widened {P} (Some c) h =
+  front_long : length (take start T) ≡ start
+  front_long = length-take-le start T (omega arith)
+
+  pub placed_long : length (put_mid start k T p) ≡ length T
+  placed_long =
+      omega (arith, length-append (take start T) (p ++ last), length-append p last, front_long, length-drop k (drop start T), length-drop start T)
+
+  placed_part : (c : ℕ) → c ≤ length p → between start (start + c) (put_mid start k T p) ≡ between 0 c p
+  placed_part c h =
+      ap (take {A = Group} (start + c - start)) (drop_at (take start T) (p ++ last) start front_long)
+      ∙ ap (λ (n : ℕ). take n (p ++ last)) (let e : start + c - start ≡ c = omega arith in e) ∙ take-append-le c p last h
+      ∙ ap (λ (n : ℕ). take n p) (let e : c ≡ c - 0 = omega arith in e)
+
+  placed_kept : Same T (put_mid start k T p) start
+  placed_kept i l = get_or_append_left (take start T) (p ++ last) nothing i (omega (arith, front_long)) ∙ get_or-take start T i nothing l
+
+  pub placed_none : {P : Group → Type 0} → Listed P (mid_of start k T) p 0 lim None → Listed P T (put_mid start k T p) start lim None
+  placed_none h = record { kept = placed_kept; result = h.result }
+
+  pub placed_some : {P : Group → Type 0} (c : ℕ) → Listed P (mid_of start k T) p 0 lim (Some c) → Listed P T (put_mid start k T p) start lim (Some (start + c))
+  placed_some {P} c h =
       let r = h.result in
       record {
-        kept = front_kept h.kept;
-        result = (r.0, omega (arith, r.1, length-append p' (drop n T)), r.2, subst (Listing P) (sym (part c r.0 r.1)) r.3);
+        kept = placed_kept;
+        result = (omega arith, omega (arith, r.1, placed_long), omega (arith, r.2), subst (Listing P) (sym (placed_part c r.1)) r.3);
       }
 
 -- the same, for plans and doors that are these

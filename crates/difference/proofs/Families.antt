@@ -140,9 +140,6 @@ module _ {P : Group → Type 0} (list T T' : List Group) (count : ℕ) (r : Opti
 -- ---- the family of a key
 
 module _ (bs rs : List ℕ) (D u gained lost : ℕ) (og : OnlyIn (get_or rs u 0) (get_or bs u 0) D gained) (ol : OnlyIn (get_or bs u 0) (get_or rs u 0) D lost) where
-  pub key_apart : (i : ℕ) → Has gained i → Has lost i → ⊥
-  key_apart i a b = ol.lacks i b (og.has i a)
-
   pub meets_touch : (g : Group) → Meets bs rs D u gained lost g → IsGroup rs D g × KeyTouches bs rs D u g
   meets_touch g m =
       let v = m.number in (

@@ -2,7 +2,7 @@
 use Rattle.std.proofs.Common.{◌≡◌, ℕ, ◌-◌, ◌^◌, ◌<◌, ◌≤◌, Bool, not, eqb, MatchBool, sym, ap, subst, ⊎_elim, arith}
 use lib.Bits.{bit_and, bit_or}
 use lib.Count.{count_trailing_zeros}
-use Rattle.std.proofs.lemmas.Bool.{cases_eq, cases_Bool, eqb-true, eqb-false, ne_eqb}
+use Rattle.std.proofs.lemmas.Bool.{cases_eq, cases_Bool, eqb-true, eqb-false}
 use Rattle.masks.specs.Masks.{bit, Has, first_set}
 use Rattle.masks.proofs.Bitlaws.{bit_lt, bit_not, bit_zero, bit_pow_other, has_and, and_has, or_has, below_has, has_below, lowest_has}
 use Rattle.masks.proofs.Joins.{first_has, first_only}
@@ -60,6 +60,3 @@ pub when_ne : (x : ℕ) (P Q : Type 0) → ((x ≡ 0 → ⊥) → P) → (x ≡ 
 when_ne x P Q p q =
     ⊎_elim (λ e. subst (λ (b : Bool). MatchBool (not b) P Q) (sym e) (q (eqb-true x 0 e)))
     (λ e. subst (λ (b : Bool). MatchBool (not b) P Q) (sym e) (p (eqb-false x 0 e))) (cases_Bool (eqb x 0))
-
-pub when_not : (x n : ℕ) (P Q : Type 0) → (x ≡ n → ⊥) → Q → MatchBool (eqb x n) P Q
-when_not x n P Q ne q = subst (λ (b : Bool). MatchBool b P Q) (sym (ne_eqb x n ne)) q

@@ -43,9 +43,6 @@ module _ {bs rs : List ℕ} {D : ℕ} where
       (λ a. ⊎_elim (λ (e : a.0 ≡ v). inr (s.0, subst (λ (d : ℕ). DoorTouches bs rs d g) e a.2)) (λ ne. inl (s.0, inr (a.0, omega (arith, a.1), a.2))) (cases_eq a.0 v))
       s.1
 
-  pub none_yet : (g : Group) → Sofar bs rs D 0 0 g → ⊥
-  none_yet g s = ⊎_elim (λ a. omega (arith, a.1)) (λ a. omega (arith, a.1)) s.1
-
 -- what a search left, at a number that is the same
 pub met_at : {bs rs : List ℕ} {D D' u gained lost : ℕ} {T T' : List Group} {count : ℕ} {r : Option ℕ} → D ≡ D'
     → Outcome (Meets bs rs D u gained lost) T T' count r → Outcome (Meets bs rs D' u gained lost) T T' count r

@@ -1,6 +1,7 @@
 -- The sieve, step by step, and places turned one by one.
-use Rattle.std.proofs.Common.{◌≡◌, ℕ, ◌+◌, ◌<◌, ◌≤◌, ◌⊎◌, List, length, set, sym, refl, ap, ◌∙◌, subst, inl, inr, ⊎_elim, arith}
-use Rattle.std.proofs.lemmas.List.{get_or-set_same, get_or-set_other}
+use Rattle.std.proofs.Common.{◌≡◌, ℕ, ◌+◌, ◌-◌, ◌<◌, ◌≤◌, ◌⊎◌, List, ◌++◌, map, length, take, drop, set, sym, ap, ◌∙◌, subst, inl, inr, ⊎_elim, arith}
+use borrow.Rule.Slice.PartMut.{mid_of, put_mid}
+use Rattle.std.proofs.lemmas.List.{get_or-set_same, get_or-set_other, get_or_append_left, get_or-append_right, get_or-drop, get_or-map, get_or-take, length-drop, length-map, length-take, length-take-le}
 use Rattle.std.proofs.lemmas.Bool.{cases_eq}
 use Rattle.groups.specs.declared.group.Group.{Group}
 use Rattle.groups.specs.Plans.{nothing, flip}
@@ -8,19 +9,6 @@ use Rattle.difference.specs.Places.{Sieved, Turning, at}
 
 abbrev pub Rest : List Group → List Group → ℕ → Type 0
 Rest T T' i = (j : ℕ) → i ≤ j → at T' j ≡ at T j
-
-pub sieved_none : {E : Group → Type 0} (T : List Group) (count : ℕ) → Sieved E T T count count count × Rest T T count
-sieved_none T count = (
-  record {
-    low = omega arith;
-    high = omega arith;
-    kept = λ i l. refl;
-    source = λ i l h. absurd (omega arith);
-    apart = λ i k l m h e. omega arith;
-    found = λ j l h. absurd (omega arith);
-  },
-  λ j l. refl,
-)
 
 module _ {E : Group → Type 0} {T T' : List Group} {count i c : ℕ} (s : Sieved E T T' count i c) (rest : Rest T T' i) where
   pub sieved_more_no : E (at T' i) → Sieved E T T' count (i + 1) c × Rest T T' (i + 1)
@@ -86,14 +74,18 @@ sieved_moved {E} {T} {t} {t'} {count} {f} {e} {e'} p q h =
     subst (λ (u : List Group). Sieved E T u count f e' × Rest T u f) (sym p) (subst (λ (k : ℕ). Sieved E T t count f k × Rest T t f) (sym q) h)
 
 -- ---- places turned
-module _ {T T' : List Group} {from i : ℕ} (s : Turning T T' from i) (rest : Rest T T' i) (inside : i < length T') (after : from ≤ i) where
-  pub turning_more : Turning T (set T' i (flip (at T' i))) from (i + 1) × Rest T (set T' i (flip (at T' i))) (i + 1)
-  turning_more = (
+pub turned_mid : (T groups : List Group) (from to : ℕ) → from ≤ to → to ≤ length T → groups ≡ map flip (mid_of from (to - from) T)
+    → Turning T (put_mid from (to - from) T groups) from to
+turned_mid T groups from to low high e =
+    let mid : List Group = mid_of from (to - from) T in
+    let last : List Group = drop (to - from) (drop from T) in
+    let front : length (take from T) ≡ from = length-take-le from T (omega arith) in
+    let long : length mid ≡ to - from = omega (arith, length-take (to - from) (drop from T), length-drop from T) in
     record {
-      kept = λ k l. get_or-set_other T' i k (flip (at T' i)) nothing (λ z. omega arith) ∙ s.kept k l;
-      turned = λ k l h.
-          ⊎_elim (λ e. ap (at (set T' i (flip (at T' i)))) e ∙ get_or-set_same T' i (flip (at T' i)) nothing inside ∙ ap flip (rest i (omega arith)) ∙ ap (λ (j : ℕ). flip (at T j)) (sym e))
-          (λ ne. get_or-set_other T' i k (flip (at T' i)) nothing ne ∙ s.turned k l (omega arith)) (cases_eq k i);
-    },
-    λ j l. get_or-set_other T' i j (flip (at T' i)) nothing (λ z. omega arith) ∙ rest j (omega arith),
-  )
+      kept = λ i l. get_or_append_left (take from T) (groups ++ last) nothing i (omega arith) ∙ get_or-take from T i nothing l;
+      turned = λ i l h.
+          get_or-append_right (take from T) (groups ++ last) from i nothing front l
+          ∙ get_or_append_left groups last nothing (i - from) (omega (arith, ap (length {A = Group}) e, length-map mid flip))
+          ∙ ap (λ (z : List Group). at z (i - from)) e ∙ get_or-map flip mid (i - from) nothing nothing (omega arith)
+          ∙ ap flip (get_or-take (to - from) (drop from T) (i - from) nothing (omega arith) ∙ get_or-drop from T (i - from) nothing ∙ ap (at T) (let q : from + (i - from) ≡ i = omega arith in q));
+    }

@@ -4,7 +4,7 @@ ghost use Rattle.std.proofs.Common.{rules};
 
 use table::Record;
 
-#[derive(Clone, Copy, PartialEq, Eq, PartialOrd, Ord, Debug)]
+#[derive(Clone, Copy, PartialEq, Eq, PartialOrd, Ord, Default, Debug)]
 #[repr(C)]
 pub struct Group {
     pub keys: u64,
@@ -15,17 +15,5 @@ pub struct Group {
 impl Record for Group {
     ghost before = { group_before };
 
-    ghost irreflexive = { Prim.search rules };
-
-    ghost transitive = { Prim.search rules };
-
-    ghost total = { Prim.search rules };
-
-    fn less(&self, other: &Group) -> bool {
-        if self.keys == other.keys {
-            self.doors < other.doors
-        } else {
-            self.keys < other.keys
-        }
-    }
+    ghost order = { record { compares = Prim.search rules; irreflexive = Prim.search rules; transitive = Prim.search rules; total = Prim.search rules } };
 }

@@ -9,3 +9,12 @@ mod searches;
 mod tables;
 #[cfg(test)]
 mod two_plans;
+
+#[cfg(test)]
+use groups::group::Group;
+
+// The group of these keys and doors.
+#[cfg(test)]
+fn group(keys: u64, doors: u64) -> Group {
+    Group { keys, doors }
+}

@@ -1,11 +1,9 @@
 use groups::group::Group;
 use search::tables::Tables;
 
-const NONE: Group = Group { keys: 0, doors: 0 };
-
 #[test]
 fn watched(rt: HostRuntime) {
-    let mut table = [NONE; 4];
+    let mut table = [Group::default(); 4];
     let tables = Tables::new(&[3, 2, 4], 3);
     assert_eq!(rt; tables.groups_watched(1, &[1; 64], &mut table, 0), Some(2));
     let mut watch = [0; 64];

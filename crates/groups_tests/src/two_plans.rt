@@ -1,15 +1,10 @@
+use crate::group;
 use difference::two::TwoPlans;
 use groups::group::Group;
 
-const EMPTY: Group = Group { keys: 0, doors: 0 };
-
-fn group(keys: u64, doors: u64) -> Group {
-    Group { keys, doors }
-}
-
 #[test]
 fn both_lists_of_two_plans(rt: HostRuntime) {
-    let mut table = [EMPTY; 8];
+    let mut table = [Group::default(); 8];
     assert_eq!(rt;
         TwoPlans::new(&[3, 2, 4], &[3, 3, 4], 3).new_groups(&mut table, 0, 4),
         Some(1)
@@ -37,7 +32,7 @@ fn both_lists_of_two_plans(rt: HostRuntime) {
 // Rows that one plan has alone, and doors past the number of doors, do not count.
 #[test]
 fn what_both_have(rt: HostRuntime) {
-    let mut table = [EMPTY; 4];
+    let mut table = [Group::default(); 4];
     let plans = TwoPlans::new(&[3, 1, 3], &[3, 3], 1);
     assert_eq!(rt; plans.new_groups(&mut table, 0, 2), Some(0));
     assert_eq!(rt; plans.lapsed_groups(&mut table, 0, 2), Some(0));

@@ -1,5 +1,5 @@
 -- Hexadecimal digits, one place after another.
-use Rattle.std.proofs.Common.{◌≡◌, ℕ, zero, suc, ◌+◌, ◌*◌, ◌/◌, ◌%◌, ◌^◌, ◌<◌, List, [], ◌∷◌, ◌++◌, length, get_or, codes, sym, refl, ap, ◌∙◌, append_assoc, le_of_suc-le-suc, not-suc-le-zero, add-zero, add-suc, mod-lt, mod-eq_of_lt, mul_assoc, add-mul, suc-add, pow-suc, zero-add, mul-suc, arith, pow-add, rules}
+use Rattle.std.proofs.Common.{◌≡◌, ℕ, zero, suc, ◌+◌, ◌*◌, ◌/◌, ◌%◌, ◌^◌, ◌<◌, ◌≤◌, List, [], ◌∷◌, ◌++◌, length, get_or, codes, sym, refl, ap, ◌∙◌, subst, append-nil, append_assoc, le_of_suc-le-suc, not-suc-le-zero, add-zero, add-suc, mod-lt, mod-eq_of_lt, mul_assoc, add-mul, suc-add, pow-suc, zero-add, mul-suc, arith, pow-add, rules}
 use native.Mathlib.Nat.{pow-succ', one-le-pow}
 use lib.Arith.{mod-mul}
 use Rattle.std.specs.Str.Parse.{digits_value, digits_value_after}
@@ -18,6 +18,10 @@ sixteens (suc k) = ap (λ (x : ℕ). 2 ^ x) (mul-suc 4 k) ∙ pow-add 2 (4 * k) 
 -- the digit of the highest place left goes from what is to come to what is written
 pub hex_more : {p b : ℕ} {r : List ℕ} (s w : List ℕ) (k x : ℕ) → p ≡ suc k → s ++ hex_digits p x ≡ w → b ≡ hex_digit_of (x / 2 ^ (4 * k) % 16) → r ≡ s ++ (b ∷ []) → r ++ hex_digits k x ≡ w
 hex_more s w k x e h d f = let at = ap (λ (n : ℕ). hex_digit_of (x / n % 16)) (sixteens k) in let whole = rw e at h in ap (λ (z : List ℕ). z ++ hex_digits k x) f ∙ append_assoc s _ (hex_digits k x) ∙ ap (λ (z : ℕ). s ++ (z ∷ hex_digits k x)) (d ∙ at) ∙ whole
+
+-- and once none is left all are written
+pub hex_done : (s w : List ℕ) (k x : ℕ) → k ≤ 0 → s ++ hex_digits k x ≡ w → s ≡ w
+hex_done s w k x l h = let z : k ≡ 0 = omega arith in sym (append-nil s) ∙ subst (λ (n : ℕ). s ++ hex_digits n x ≡ w) z h
 
 -- the bytes of a list are digits that count up from a number
 abbrev Counts : ℕ → List ℕ → Type 0

@@ -1,5 +1,4 @@
 mod Joins
 mod Hex
-mod Fronts
 mod Parts
 mod Readings

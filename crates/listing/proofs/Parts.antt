@@ -1,11 +1,11 @@
 -- Lines by their fields, and the room that a number wants.
-use Rattle.std.proofs.Common.{◌≡◌, ℕ, ◌+◌, ◌^◌, ◌<◌, ◌≤◌, List, [], ◌∷◌, ◌++◌, length, codes, decimal, unwrap_or, refl, ap, ◌∙◌, append_assoc, arith, length-append}
+use Rattle.std.proofs.Common.{◌≡◌, ℕ, ◌+◌, ◌^◌, ◌<◌, ◌≤◌, List, [], ◌∷◌, ◌++◌, length, codes, decimal, unwrap_or, refl, arith, length-append}
 use Rattle.std.proofs.lemmas.Fmt.{length-decimal-le}
 use Rattle.faults.specs.declared.cause.Cause.{Cause}
 use Rattle.faults.specs.declared.intake.Layer.{Layer}
 use Rattle.faults.specs.declared.intake.Layer.TheVariants.{File, Draft, Suite}
 use Rattle.groups.specs.declared.group.Group.{Group}
-use Rattle.listing.specs.Lines.{further, line_of, booked_line, group_line, word_of_layer, refused_line}
+use Rattle.listing.specs.Lines.{line_of, booked_line, group_line, word_of_layer, refused_line}
 use Rattle.listing.specs.Theorems.{Told}
 use Rattle.listing.proofs.Joins.{joined_length}
 
@@ -18,22 +18,6 @@ decimal_byte n fits = length-decimal-le 3 n (omega arith) (omega arith) (omega a
 -- a field takes its own bytes and one for the space
 pub field_length : {r : List ℕ} (s f : List ℕ) → r ≡ s ++ (32 ∷ f) → length r ≡ length s + length f + 1
 field_length s f e = omega (arith, joined_length s (32 ∷ f) e)
-
-pub two_fields : {b c d : List ℕ} (s f g : List ℕ) → b ≡ s ++ (32 ∷ f) → c ≡ b ++ (32 ∷ g) → d ≡ c ++ further [] → d ≡ s ++ further (f ∷ g ∷ [])
-two_fields s f g eb ec ed = ed ∙ ap (λ (z : List ℕ). z ++ further []) (ec ∙ ap (λ (z : List ℕ). z ++ (32 ∷ g)) eb) ∙ simp append_assoc
-
--- a line that began with a word
-pub begun : {s r : List ℕ} (word rest : List ℕ) → s ≡ word → r ≡ s ++ rest → r ≡ word ++ rest
-begun word rest e f = f ∙ ap (λ (z : List ℕ). z ++ rest) e
-
--- the line of a refusal by the parts that were asked for
-pub refusal : {r w : List ℕ} {v : ℕ} (l layer : Layer) (k cause : Cause) → l ≡ layer → k ≡ cause → w ≡ word_of_layer l → v ≡ unwrap_or k.value 0 → r ≡ line_of (codes "no") (w ∷ decimal k.number ∷ decimal v ∷ []) → r ≡ refused_line layer cause
-refusal {v = v} l layer k cause el ek ew ev e =
-    e
-    ∙ ap (λ (z : List ℕ). line_of (codes "no") (z ∷ decimal k.number ∷ decimal v ∷ [])) ew
-    ∙ ap (λ (z : ℕ). line_of (codes "no") (word_of_layer l ∷ decimal k.number ∷ decimal z ∷ [])) ev
-    ∙ ap (λ (z : Layer). refused_line z k) el
-    ∙ ap (λ (z : Cause). refused_line layer z) ek
 
 pub layer_short : (l : Layer) → length (word_of_layer l) ≤ 5
 layer_short File = omega arith

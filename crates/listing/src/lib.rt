@@ -1,7 +1,6 @@
 // The lines of the listing: what is printed of each weekly file that is booked or refused, byte by byte.
 #![tactic(auto)]
 
-mod build;
 mod fields;
 pub mod line;
 pub mod lines;

@@ -1,9 +1,7 @@
-// A line of the listing. The longest has 45 bytes, so it stands in an array and needs no heap.
-ghost use Rattle.std.specs.Prelude.{◌≤◌};
+// A line of the listing. The longest has 45 bytes, so it stands in the value itself and needs no heap.
+use arrayvec::ArrayString;
 
 #[derive(Clone, Copy)]
 pub struct Line {
-    pub(crate) bytes: [u8; 48],
-    pub(crate) length: usize,
-    ghost within: { length ≤ 48 },
+    pub(crate) text: ArrayString<48>,
 }

@@ -1,8 +1,9 @@
 // What a line holds, and a call for each kind of line.
-ghost use Rattle.std.specs.Prelude.{◌≡◌};
+ghost use Rattle.std.specs.Prelude.{◌≡◌, ◌<◌, [], ◌∷◌, length};
 ghost use Rattle.faults.specs.Faults.{intake_cause, intake_layer};
 ghost use Rattle.listing.specs.Bytes.{line_bytes};
-ghost use Rattle.listing.specs.Lines.{booked_line, group_line, lapsed_group_line, new_group_line, word_of_layer, refused_line, size_line, cut_line};
+ghost use Rattle.listing.specs.Digits.{hexadecimal};
+ghost use Rattle.listing.specs.Lines.{line_of, booked_line, lapsed_group_line, new_group_line, word_of_layer, refused_line, size_line, cut_line};
 
 use crate::line::Line;
 use faults::cause::Cause;
@@ -14,7 +15,7 @@ impl Line {
     pub fn bytes(&self) -> &[u8]
         ensures { result.now ≡ line_bytes self.now }
     {
-        &self.bytes[0..self.length]
+        self.text.as_str().as_bytes()
     }
 }
 
@@ -22,16 +23,17 @@ impl Line {
 pub fn booked(new: usize, lapsed: usize) -> Line
     ensures { line_bytes result ≡ booked_line new lapsed }
 {
-    let mut line = Line::begin(b"ok");
+    let mut line = Line::begin("ok");
     line.end_numbers(new, lapsed);
     line
 }
 
 // A group's keys and doors under a sign.
-fn signed(sign: u8, group: Group) -> Line
-    ensures { line_bytes result ≡ group_line sign group }
+fn signed(sign: &str, group: Group) -> Line
+    requires { length sign.now ≡ 1 }
+    ensures { line_bytes result ≡ line_of sign.now (hexadecimal group.keys ∷ hexadecimal group.doors ∷ []) }
 {
-    let mut line = Line::begin(&[sign]);
+    let mut line = Line::begin(sign);
     line.add_mask(group.keys);
     line.add_mask(group.doors);
     line.end();
@@ -41,22 +43,23 @@ fn signed(sign: u8, group: Group) -> Line
 pub fn lapsed_group(group: Group) -> Line
     ensures { line_bytes result ≡ lapsed_group_line group }
 {
-    signed(b'-', group)
+    signed("-", group)
 }
 
 pub fn new_group(group: Group) -> Line
     ensures { line_bytes result ≡ new_group_line group }
 {
-    signed(b'+', group)
+    signed("+", group)
 }
 
-fn layer_word(layer: Layer) -> &'static [u8]
+// A layer's word, and no `Display` of layers, since a formatter may fail and a line may not.
+fn layer_word(layer: Layer) -> &'static str
     ensures { result.now ≡ word_of_layer layer }
 {
     match layer {
-        Layer::File => b"file",
-        Layer::Draft => b"draft",
-        Layer::Suite => b"suite",
+        Layer::File => "file",
+        Layer::Draft => "draft",
+        Layer::Suite => "suite",
     }
 }
 
@@ -65,9 +68,19 @@ pub fn refused(fault: &IntakeFault) -> Line
     ensures { line_bytes result ≡ refused_line (intake_layer fault.now) (intake_cause fault.now) }
 {
     let Cause { number, value } = fault.cause();
-    let mut line = Line::begin(b"no");
+    let mut line = Line::begin("no");
     line.add_word(layer_word(fault.layer()));
-    line.end_numbers(number as usize, value.unwrap_or(0));
+    line.end_numbers(usize::from(number), value.unwrap_or(0));
+    line
+}
+
+// A line of one word.
+fn word_alone(word: &str) -> Line
+    requires { length word.now < 48 }
+    ensures { line_bytes result ≡ line_of word.now [] }
+{
+    let mut line = Line::begin(word);
+    line.end();
     line
 }
 
@@ -75,16 +88,12 @@ pub fn refused(fault: &IntakeFault) -> Line
 pub fn bad_size() -> Line
     ensures { line_bytes result ≡ size_line }
 {
-    let mut line = Line::begin(b"size");
-    line.end();
-    line
+    word_alone("size")
 }
 
 // The input ends inside a length or a file, or a length is too large.
 pub fn cut() -> Line
     ensures { line_bytes result ≡ cut_line }
 {
-    let mut line = Line::begin(b"cut");
-    line.end();
-    line
+    word_alone("cut")
 }

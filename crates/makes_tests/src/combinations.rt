@@ -5,11 +5,19 @@ use one_record::make::OneRecord;
 use pairs::pair::Pair;
 use plans::makes::{PairPlan, TablePlan};
 use plans::plan::{ChangePlan, ReadPlan};
-use registers::line::Line;
+use registers::line::{Call, Line};
 use registers::makes::{Journal, SortedRegister};
 use registers::register::Register;
 use std::process::Abort;
 use std::test::Fail;
+
+// A row to lend.
+fn blank() -> Line {
+    Line {
+        call: Call::Enter(Group::default()),
+        held: Group::default(),
+    }
+}
 
 // Key 1 comes to open door 0, which makes one group, and then does not open it any more.
 fn follow<P: ChangePlan, R: Register>(
@@ -17,8 +25,8 @@ fn follow<P: ChangePlan, R: Register>(
     plan: &mut P,
     register: &mut R,
 ) -> Result<(), Fail> {
-    let key = KeyNo::new(1)?;
-    let door = DoorNo::new(0)?;
+    let key = KeyNo::try_from(1)?;
+    let door = DoorNo::try_from(0)?;
     assert!(rt; plan.permit(key, door).is_ok());
     let group = Group {
         keys: plan.keys_of(door),
@@ -37,46 +45,36 @@ fn follow<P: ChangePlan, R: Register>(
 #[test]
 fn table_plan_and_sorted_register(rt: HostRuntime) -> Result<(), Fail> {
     let mut plan = TablePlan::new(Sizes::new(2, 1)?);
-    let mut memory = [Group { keys: 0, doors: 0 }; 1];
+    let mut memory = [Group::default(); 1];
     follow(&rt, &mut plan, &mut SortedRegister::new(&mut memory))
 }
 
 #[test]
 fn table_plan_and_journal(rt: HostRuntime) -> Result<(), Fail> {
     let mut plan = TablePlan::new(Sizes::new(2, 1)?);
-    let group = Group { keys: 0, doors: 0 };
-    let mut memory = [Line {
-        group,
-        struck: false,
-        held: group,
-    }; 2];
+    let mut memory = [blank(); 2];
     follow(&rt, &mut plan, &mut Journal::new(&mut memory))
 }
 
 #[test]
 fn pair_plan_and_sorted_register(rt: HostRuntime) -> Result<(), Fail> {
-    let mut pairs = [Pair { key: 0, door: 0 }; 1];
+    let mut pairs = [Pair::default(); 1];
     let mut plan = PairPlan::new(Sizes::new(2, 1)?, &mut pairs);
-    let mut memory = [Group { keys: 0, doors: 0 }; 1];
+    let mut memory = [Group::default(); 1];
     follow(&rt, &mut plan, &mut SortedRegister::new(&mut memory))
 }
 
 #[test]
 fn pair_plan_and_journal(rt: HostRuntime) -> Result<(), Fail> {
-    let mut pairs = [Pair { key: 0, door: 0 }; 1];
+    let mut pairs = [Pair::default(); 1];
     let mut plan = PairPlan::new(Sizes::new(2, 1)?, &mut pairs);
-    let group = Group { keys: 0, doors: 0 };
-    let mut memory = [Line {
-        group,
-        struck: false,
-        held: group,
-    }; 2];
+    let mut memory = [blank(); 2];
     follow(&rt, &mut plan, &mut Journal::new(&mut memory))
 }
 
 #[test]
 fn any_plan_and_one_record(rt: HostRuntime) -> Result<(), Fail> {
-    let mut pairs = [Pair { key: 0, door: 0 }; 1];
+    let mut pairs = [Pair::default(); 1];
     let sizes = Sizes::new(2, 1)?;
     let mut plan = PairPlan::new(sizes, &mut pairs);
     let mut register = OneRecord::new();

@@ -3,7 +3,7 @@ use faults::register::RegisterFault;
 use groups::group::Group;
 use one_record::make::OneRecord;
 use registers::all::{enter_all, strike_all};
-use registers::line::Line;
+use registers::line::{Call, Line};
 use registers::makes::{Journal, SortedRegister};
 use registers::register::Register;
 use std::process::Abort;
@@ -17,26 +17,22 @@ const C: Group = Group { keys: 3, doors: 4 };
 // A row to lend.
 fn blank() -> Line {
     Line {
-        group: A,
-        struck: false,
+        call: Call::Enter(A),
         held: A,
     }
 }
 
-// The number of the cause of a refusal, or 0.
-fn number(answer: Result<(), RegisterFault>) -> u8 {
-    match answer {
-        Ok(()) => 0,
-        Err(fault) => fault.cause().number,
-    }
+// A refusal as the number of its cause.
+fn told(answer: Result<(), RegisterFault>) -> Result<(), u8> {
+    answer.map_err(|fault| fault.cause().number)
 }
 
 // What any register with no record and a place answers.
 fn refusals<R: Register>(rt: &impl Abort, register: &mut R) {
-    assert_eq!(rt; number(register.strike(A)), 9);
-    assert_eq!(rt; number(register.enter(A)), 0);
-    assert_eq!(rt; number(register.enter(A)), 7);
-    assert_eq!(rt; number(register.strike(B)), 9);
+    assert_eq!(rt; told(register.strike(A)), Err(9));
+    assert_eq!(rt; told(register.enter(A)), Ok(()));
+    assert_eq!(rt; told(register.enter(A)), Err(7));
+    assert_eq!(rt; told(register.strike(B)), Err(9));
     assert_eq!(rt; (register.holds(A), register.holds(B)), (true, false));
     assert_eq!(rt; register.count(), 1);
 }
@@ -44,8 +40,8 @@ fn refusals<R: Register>(rt: &impl Abort, register: &mut R) {
 // What any register without places answers that has none.
 fn empty<R: Register>(rt: &impl Abort, register: &mut R) {
     assert_eq!(rt; (register.count(), register.spare()), (0, 0));
-    assert_eq!(rt; number(register.enter(A)), 8);
-    assert_eq!(rt; number(register.strike(A)), 9);
+    assert_eq!(rt; told(register.enter(A)), Err(8));
+    assert_eq!(rt; told(register.strike(A)), Err(9));
     assert_eq!(rt; register.record_at(0), None);
 }
 
@@ -101,11 +97,11 @@ fn full_sorted_register_strikes(rt: HostRuntime) {
     let mut groups = [A; 2];
     let mut register = SortedRegister::new(&mut groups);
     enter_all(&mut register, &[A, B]);
-    assert_eq!(rt; number(register.enter(C)), 8);
-    assert_eq!(rt; number(register.enter(B)), 7);
-    assert_eq!(rt; number(register.strike(C)), 9);
-    assert_eq!(rt; number(register.strike(A)), 0);
-    assert_eq!(rt; number(register.enter(C)), 0);
+    assert_eq!(rt; told(register.enter(C)), Err(8));
+    assert_eq!(rt; told(register.enter(B)), Err(7));
+    assert_eq!(rt; told(register.strike(C)), Err(9));
+    assert_eq!(rt; told(register.strike(A)), Ok(()));
+    assert_eq!(rt; told(register.enter(C)), Ok(()));
     assert_eq!(rt; register.spare(), 0);
 }
 
@@ -114,11 +110,11 @@ fn full_journal_does_not_strike(rt: HostRuntime) {
     let mut lines = [blank(); 3];
     let mut journal = Journal::new(&mut lines);
     enter_all(&mut journal, &[A, B]);
-    assert_eq!(rt; number(journal.strike(A)), 0);
-    assert_eq!(rt; number(journal.enter(C)), 8);
-    assert_eq!(rt; number(journal.enter(B)), 7);
-    assert_eq!(rt; number(journal.strike(B)), 8);
-    assert_eq!(rt; number(journal.strike(A)), 9);
+    assert_eq!(rt; told(journal.strike(A)), Ok(()));
+    assert_eq!(rt; told(journal.enter(C)), Err(8));
+    assert_eq!(rt; told(journal.enter(B)), Err(7));
+    assert_eq!(rt; told(journal.strike(B)), Err(8));
+    assert_eq!(rt; told(journal.strike(A)), Err(9));
     assert_eq!(rt; journal.record_at(0), Some(B));
     assert_eq!(rt; journal.count(), 1);
 }
@@ -126,12 +122,12 @@ fn full_journal_does_not_strike(rt: HostRuntime) {
 #[test]
 fn one_record_is_full(rt: HostRuntime) {
     let mut register = OneRecord::new();
-    assert_eq!(rt; number(register.enter(A)), 0);
-    assert_eq!(rt; number(register.enter(B)), 8);
-    assert_eq!(rt; number(register.enter(A)), 7);
+    assert_eq!(rt; told(register.enter(A)), Ok(()));
+    assert_eq!(rt; told(register.enter(B)), Err(8));
+    assert_eq!(rt; told(register.enter(A)), Err(7));
     assert_eq!(rt; register.record_at(0), Some(A));
     assert_eq!(rt; register.record_at(1), None);
-    assert_eq!(rt; number(register.strike(A)), 0);
+    assert_eq!(rt; told(register.strike(A)), Ok(()));
     assert_eq!(rt;
         (register.count(), register.spare(), register.spends()),
         (0, 1, false)
@@ -143,17 +139,16 @@ fn lines_are_in_the_order_of_the_calls(rt: HostRuntime) {
     let mut lines = [blank(); 3];
     let mut journal = Journal::new(&mut lines);
     enter_all(&mut journal, &[C, C, B]);
-    assert_eq!(rt; number(journal.strike(C)), 0);
-    assert_eq!(rt; (lines[0].group, lines[0].struck), (C, false));
-    assert_eq!(rt; (lines[1].group, lines[1].struck), (B, false));
-    assert_eq!(rt; (lines[2].group, lines[2].struck), (C, true));
+    assert_eq!(rt; told(journal.strike(C)), Ok(()));
+    assert_eq!(rt; lines[0].call, Call::Enter(C));
+    assert_eq!(rt; lines[1].call, Call::Enter(B));
+    assert_eq!(rt; lines[2].call, Call::Strike(C));
     assert_eq!(rt; lines[0].held, B);
 }
 
 #[test]
 fn capacity_is_at_most_65536(rt: HostRuntime) {
-    let group = blank().group;
-    let mut groups = [group; 65537];
+    let mut groups = [A; 65537];
     let mut lines = [blank(); 65537];
     assert_eq!(rt; SortedRegister::new(&mut groups).spare(), 65536);
     assert_eq!(rt; Journal::new(&mut lines).spare(), 65536);
@@ -165,9 +160,9 @@ fn longest_journal(rt: HostRuntime) {
     let mut lines = [blank(); 65536];
     let mut journal = Journal::new(&mut lines);
     for keys in 0..65536 {
-        assert_eq!(rt; number(journal.enter(Group { keys, doors: 1 })), 0);
+        assert_eq!(rt; told(journal.enter(Group { keys, doors: 1 })), Ok(()));
     }
-    assert_eq!(rt; number(journal.enter(A)), 8);
+    assert_eq!(rt; told(journal.enter(A)), Err(8));
     for index in 0..65536 {
         let group = Group {
             keys: index as u64,

@@ -179,11 +179,11 @@ less_at a b j n h above =
 
 -- ---- the lowest bit, by `trailing_zeros`, and the rest, by `x & (x - 1)`
 
-trailing_odd : (k x : ℕ) → x % 2 ≡ 1 → count_trailing_zeros (suc k) x ≡ 0
+pub trailing_odd : (k x : ℕ) → x % 2 ≡ 1 → count_trailing_zeros (suc k) x ≡ 0
 unfolding count_trailing_zeros
 trailing_odd k x e = ap (λ (d : ℕ). under d (count_trailing_zeros k (x / 2))) e
 
-trailing_even : (k x : ℕ) → x % 2 ≡ 0 → count_trailing_zeros (suc k) x ≡ suc (count_trailing_zeros k (x / 2))
+pub trailing_even : (k x : ℕ) → x % 2 ≡ 0 → count_trailing_zeros (suc k) x ≡ suc (count_trailing_zeros k (x / 2))
 unfolding count_trailing_zeros
 trailing_even k x e = ap (λ (d : ℕ). under d (count_trailing_zeros k (x / 2))) e
 
@@ -217,4 +217,15 @@ dropped_has (suc k) x (suc i) h p n =
     let q : Has (x / 2) i = sym (bit_suc x i) ∙ p in
     bit_suc (x - 1) i ∙ ap (λ (v : ℕ). bit v i) (let q : (x - 1) / 2 ≡ x / 2 - 1 = omega arith in q)
     ∙ dropped_has k (x / 2) i (omega arith) q (λ d. n (ap suc d ∙ sym (trailing_even k x e))))
+    (cases_eq (x % 2) 1)
+
+pub dropped_lacks : (k x : ℕ) → x < 2 ^ k → 0 < x → bit (x - 1) (count_trailing_zeros k x) ≡ 0
+dropped_lacks zero x h p = absurd (omega arith)
+dropped_lacks (suc k) x h p =
+    ⊎_elim
+    (λ (e : x % 2 ≡ 1). ap (bit (x - 1)) (trailing_odd k x e) ∙ bit_first (x - 1) ∙ omega arith)
+    (λ ne. let e = even x ne in
+    ap (bit (x - 1)) (trailing_even k x e) ∙ bit_suc (x - 1) (count_trailing_zeros k (x / 2))
+    ∙ ap (λ (v : ℕ). bit v (count_trailing_zeros k (x / 2))) (let q : (x - 1) / 2 ≡ x / 2 - 1 = omega arith in q)
+    ∙ dropped_lacks k (x / 2) (omega arith) (omega arith))
     (cases_eq (x % 2) 1)

@@ -1,3 +1,4 @@
 pub mod Bitlaws
 pub mod Flips
 pub mod Joins
+pub mod Ascending

@@ -5,6 +5,8 @@ ghost use Rattle.std.specs.Prelude.{◌≡◌};
 ghost use Rattle.masks.specs.Laws.{LawsOfSets};
 ghost use Rattle.masks.specs.Masks.{has_bit, with_answer, parted, first_set, is_within};
 
+pub mod members;
+
 // Whether i is in the set x. A number above 63 is in none.
 pub fn has(x: u64, i: u8) -> bool
     ensures { result ≡ has_bit x i }

@@ -7,21 +7,24 @@ ghost use Rattle.numbers.specs.Numbers.{number_answer, door_number};
 use crate::number::DoorNo;
 use faults::number::NumberFault;
 
-impl DoorNo {
-    pub fn new(value: u8) -> Result<DoorNo, NumberFault>
-        ensures { told_as door_number number_cause result ≡ number_answer value }
-    {
+impl TryFrom<u8> for DoorNo {
+    type Error = NumberFault;
+
+    ghost try_from_gives = { λ value r. told_as door_number number_cause r ≡ number_answer value };
+
+    fn try_from(value: u8) -> Result<DoorNo, NumberFault> {
         if value < 64 {
             Ok(DoorNo { value })
         } else {
             Err(NumberFault::TooHigh)
         }
     }
+}
 
-    pub fn number(self) -> u8
-        ensures value { result ≡ door_number self }
-        ensures bound { result < 64 }
-    {
-        self.value
+impl From<DoorNo> for u8 {
+    ghost from_gives = { λ door r. (r ≡ door_number door) × (r < 64) };
+
+    fn from(door: DoorNo) -> u8 {
+        door.value
     }
 }

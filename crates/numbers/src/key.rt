@@ -7,21 +7,24 @@ ghost use Rattle.numbers.specs.Numbers.{number_answer, key_number};
 use crate::number::KeyNo;
 use faults::number::NumberFault;
 
-impl KeyNo {
-    pub fn new(value: u8) -> Result<KeyNo, NumberFault>
-        ensures { told_as key_number number_cause result ≡ number_answer value }
-    {
+impl TryFrom<u8> for KeyNo {
+    type Error = NumberFault;
+
+    ghost try_from_gives = { λ value r. told_as key_number number_cause r ≡ number_answer value };
+
+    fn try_from(value: u8) -> Result<KeyNo, NumberFault> {
         if value < 64 {
             Ok(KeyNo { value })
         } else {
             Err(NumberFault::TooHigh)
         }
     }
+}
 
-    pub fn number(self) -> u8
-        ensures value { result ≡ key_number self }
-        ensures bound { result < 64 }
-    {
-        self.value
+impl From<KeyNo> for u8 {
+    ghost from_gives = { λ key r. (r ≡ key_number key) × (r < 64) };
+
+    fn from(key: KeyNo) -> u8 {
+        key.value
     }
 }

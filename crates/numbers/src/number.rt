@@ -1,4 +1,5 @@
-// Numbers that their types keep in range. Key and door numbers are two types, so that neither is taken for the other.
+// Numbers that their types keep in range. Key and door numbers are two types, so that neither is taken for the other. They are two
+// structs and not one over a marker type: no derive copies a generic struct with a ghost field.
 ghost use Rattle.std.specs.Prelude.{◌<◌, ◌≤◌};
 
 #[derive(Clone, Copy)]

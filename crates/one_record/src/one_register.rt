@@ -6,7 +6,6 @@ use crate::make::OneRecord;
 use faults::register::RegisterFault;
 use groups::group::Group;
 use registers::register::Register;
-use table::Record;
 
 impl OneRecord {
     // No record.
@@ -30,10 +29,7 @@ impl Register for OneRecord {
     ghost few = { one_few };
 
     fn count(&self) -> usize {
-        match self.held {
-            Some(_) => 1,
-            None => 0,
-        }
+        usize::from(self.held.is_some())
     }
 
     fn spare(&self) -> usize {
@@ -45,10 +41,7 @@ impl Register for OneRecord {
     }
 
     fn holds(&self, record: Group) -> bool {
-        match self.held {
-            Some(held) => !record.less(&held) && !held.less(&record),
-            None => false,
-        }
+        self.held == Some(record)
     }
 
     fn record_at(&self, index: usize) -> Option<Group> {

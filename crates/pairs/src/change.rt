@@ -1,11 +1,12 @@
-// A change is a pair marked as an addition or a removal.
+// A change is a pair marked as an addition or a removal. The mark is a `bool`: there are two, and false comes before true as a removal
+// before an addition. As two variants of an enum, all removals would come before all additions.
 ghost use Rattle.pairs.specs.Orders.{change_before};
 ghost use Rattle.pairs.specs.Chains.{change_chain};
 ghost use Rattle.std.proofs.Common.{rules};
 
 use table::Record;
 
-#[derive(Clone, Copy, PartialEq, Eq, Debug)]
+#[derive(Clone, Copy, PartialEq, Eq, PartialOrd, Ord, Default, Debug)]
 pub struct Change {
     pub key: u8,
     pub door: u8,
@@ -16,19 +17,5 @@ pub struct Change {
 impl Record for Change {
     ghost before = { change_before };
 
-    ghost irreflexive = { Prim.search rules };
-
-    ghost transitive = { change_chain };
-
-    ghost total = { Prim.search rules };
-
-    fn less(&self, other: &Change) -> bool {
-        if self.key != other.key {
-            self.key < other.key
-        } else if self.door != other.door {
-            self.door < other.door
-        } else {
-            !self.added && other.added
-        }
-    }
+    ghost order = { record { compares = Prim.search rules; irreflexive = Prim.search rules; transitive = change_chain; total = Prim.search rules } };
 }

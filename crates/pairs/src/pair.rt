@@ -5,7 +5,7 @@ ghost use Rattle.std.proofs.Common.{rules};
 
 use table::Record;
 
-#[derive(Clone, Copy, PartialEq, Eq, Debug)]
+#[derive(Clone, Copy, PartialEq, Eq, PartialOrd, Ord, Default, Debug)]
 pub struct Pair {
     pub key: u8,
     pub door: u8,
@@ -15,17 +15,5 @@ pub struct Pair {
 impl Record for Pair {
     ghost before = { pair_before };
 
-    ghost irreflexive = { Prim.search rules };
-
-    ghost transitive = { pair_chain };
-
-    ghost total = { Prim.search rules };
-
-    fn less(&self, other: &Pair) -> bool {
-        if self.key == other.key {
-            self.door < other.door
-        } else {
-            self.key < other.key
-        }
-    }
+    ghost order = { record { compares = Prim.search rules; irreflexive = Prim.search rules; transitive = pair_chain; total = Prim.search rules } };
 }

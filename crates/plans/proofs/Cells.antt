@@ -1,5 +1,5 @@
 -- A table in which one pair more or one less is written.
-use Rattle.std.proofs.Common.{◌≡◌, ℕ, zero, suc, ◌+◌, ◌-◌, ◌*◌, ◌^◌, ◌<◌, ◌≤◌, Bool, true, false, cond, ◌&&◌, eqb, List, [], ◌∷◌, length, get_or, take, set, replicate, sym, refl, ap, ◌∙◌, subst, ⊎_elim, arith, pow_pos}
+use Rattle.std.proofs.Common.{◌≡◌, ℕ, zero, suc, ◌+◌, ◌-◌, ◌*◌, ◌^◌, ◌<◌, ◌≤◌, Bool, true, false, cond, ◌&&◌, eqb, List, [], ◌∷◌, Ok, Err, Result, length, get_or, take, set, replicate, sym, refl, ap, ◌∙◌, subst, ⊎_elim, arith, pow_pos}
 use lib.Count.{ones, ones_in}
 use Rattle.std.proofs.lemmas.List.{get_or-take, get_or_past, get_or-set_same, get_or-set_other, length-set, length-take, take-replicate}
 use Rattle.std.proofs.lemmas.Bool.{cases_eq, cases_lt, cond-true, cond-false, eq-eqb, ne_eqb, and_from, and_left, and_right}
@@ -104,6 +104,15 @@ module _ (p : TablePlan) where
   column_front d = column_is (table_rows p) (table_doors p) (table_sound p).below (get_or p.columns d 0) d
       (λ k h. ap (λ (v : ℕ). bit v d) (sym (row_front k)) ∙ p.agree k d ∙ h)
       (λ k h. sym (p.agree k d) ∙ ap (λ (v : ℕ). bit v d) (row_front k) ∙ h)
+
+-- whether a pair stands, by its place
+pub is_there : (b : Bool) (u : Unit {0}) → cond {A = Result (Unit {0}) (Unit {0})} b (Ok tt) (Err tt) ≡ Ok u → b ≡ true
+is_there true u e = refl
+is_there false u e = cc
+
+pub not_there : (b : Bool) (u : Unit {0}) → cond {A = Result (Unit {0}) (Unit {0})} b (Ok tt) (Err tt) ≡ Err u → b ≡ false
+not_there true u e = cc
+not_there false u e = refl
 
 -- the facts of the type for other rows, columns and number of pairs, at the same sizes
 pub record Written (p : TablePlan) (rows columns : List ℕ) (pairs : ℕ) (after : List ℕ) : Type 0 where

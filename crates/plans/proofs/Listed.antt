@@ -1,37 +1,33 @@
 -- Lists of pairs, and the rows that they mean.
-use Rattle.std.proofs.Common.{◌≡◌, ℕ, zero, suc, ◌+◌, ◌^◌, ◌<◌, ◌≤◌, Bool, true, false, cond, not, ◌&&◌, ◌||◌, eqb, ltb, List, [], ◌∷◌, map, length, get_or, take, set, replicate, sym, refl, ap, ◌∙◌, ⊎_elim, arith}
+use Rattle.std.proofs.Common.{◌≡◌, ℕ, zero, suc, ◌+◌, ◌*◌, ◌%◌, ◌^◌, ◌<◌, ◌≤◌, Bool, true, false, cond, not, ◌&&◌, ◌||◌, ◌==◌, eqb, ltb, List, [], ◌∷◌, map, length, get_or, set, replicate, sym, refl, ap, ◌∙◌, ⊎_elim, arith, rules}
 use lib.Bits.{bit_or}
-use Rattle.std.specs.List.{range_with_len}
-use Rattle.std.proofs.lemmas.List.{get_or-set_same, get_or-set_other, length-set, ext_get_or, take_more}
-use Rattle.std.proofs.lemmas.Bool.{cases_eq, cases_lt, cases_Bool, both_ways, cond_both, lt-ltb, eqb-false, eq-eqb, ne_eqb, not-true, not_from_false, and_parts, and_from, or_cases, or_left, or_right}
+use Rattle.std.specs.List.{range_with_len, fold, filter}
+use Rattle.std.proofs.lemmas.List.{get_or-set_same, get_or-set_other, length-set, ext_get_or}
+use Rattle.std.proofs.lemmas.Bool.{cases_eq, cases_lt, cases_Bool, both_ways, cond_both, cond-true, cond-false, lt-ltb, eqb-false, eq-eqb, ne_eqb, not-true, not_from_false, and_parts, and_from, or_cases, or_left, or_right}
+use Rattle.std.proofs.lemmas.Nat.{one_shl}
 use Rattle.std.proofs.lemmas.Bool.Decides.{nat_tests}
-use Rattle.masks.specs.Masks.{bit, Has, joined, parted}
-use Rattle.masks.proofs.Bitlaws.{bit_zero, bit_cases, same_sets}
-use Rattle.masks.proofs.Joins.{has_true, has_false, or_joined, joined_same, joined_other, parted_same, parted_other}
+use Rattle.masks.specs.Masks.{bit, has_bit, Has, joined, parted}
+use Rattle.masks.proofs.Bitlaws.{bit_zero, bit_cases, below_has, same_sets}
+use Rattle.masks.proofs.Joins.{has_true, true_has, has_false, or_joined, joined_lt, joined_same, joined_other, parted_same, parted_other}
 use Rattle.pairs.specs.declared.pair.Pair.{Pair}
 use Rattle.pairs.specs.Orders.{pair_before}
 use Rattle.pairs.specs.Chains.{pair_chain}
-use Rattle.table.specs.Sets.{tied, has, entered, struck}
-use Rattle.table.proofs.Ups.{Up, has_entered, has_struck, has_push, tied_same}
+use Rattle.table.specs.Sets.{tied, entered, struck}
+use Rattle.table.proofs.Ups.{Up, has_entered, has_struck, tied_same}
 use Rattle.groups.specs.Lists.{passing, addition, removal, permitted, withdrawn}
 use Rattle.groups.proofs.Closures.{has_passing, passing_has}
 use Rattle.plans.specs.Meaning.{inside, stands, keys_opening}
 use Rattle.plans.specs.Pairs.{pair_of, listed, rows_of, doors_in, keys_in, all_inside}
-use Rattle.plans.specs.Lents.{row_at, row_past, rows_length, rows_below}
+use Rattle.plans.specs.declared.makes.PairPlan.{PairPlan}
+use Rattle.plans.specs.Lents.{lent_keys, lent_doors, lent_pairs, row_at, row_past, rows_length, rows_below}
 use Rattle.plans.proofs.Columns.{inside_parts, column_is}
 
 -- ---- the order of pairs
 pub irr : (x : Pair) → pair_before x x ≡ false
 irr x = grind (arith, nat_tests)
 
-same_key : (x y : Pair) → pair_before x y ≡ false → pair_before y x ≡ false → x.key ≡ y.key
-same_key x y h k = grind (arith, nat_tests)
-
-same_door : (x y : Pair) → pair_before x y ≡ false → pair_before y x ≡ false → x.door ≡ y.door
-same_door x y h k = grind (arith, nat_tests)
-
 pub total : (x y : Pair) → pair_before x y ≡ false → pair_before y x ≡ false → x ≡ y
-total x y h k = λ i. record { key = same_key x y h k i; door = same_door x y h k i }
+total x y h k = search rules
 
 tied_door : (k e : ℕ) (p : Pair) → p.key ≡ k → tied pair_before (pair_of k e) p ≡ eqb e p.door
 tied_door k e p h = grind (arith, nat_tests)
@@ -111,12 +107,27 @@ inside_at K D [] i z l a = absurd (omega arith)
 inside_at K D (p ∷ ps) zero z l a = inside_parts K D p.key p.door (and_parts (inside K D p.key p.door) (all_inside K D ps) a).0
 inside_at K D (p ∷ ps) (suc i) z l a = inside_at K D ps i z (omega arith) (and_parts (inside K D p.key p.door) (all_inside K D ps) a).1
 
+pub inside_filtered : (K D : ℕ) (test : Pair → Bool) (ps : List Pair) → all_inside K D ps ≡ true → all_inside K D (filter test ps) ≡ true
+inside_filtered K D test [] a = refl
+inside_filtered K D test (p ∷ ps) a =
+    let s = and_parts (inside K D p.key p.door) (all_inside K D ps) a in
+    let rest = inside_filtered K D test ps s.1 in
+    cond_both (test p) (p ∷ filter test ps) (filter test ps) (λ v. all_inside K D v ≡ true) (λ e. and_from (inside K D p.key p.door) (all_inside K D (filter test ps)) s.0 rest) (λ e. rest)
+
 -- ---- the rows and the list
 row_listed : (K D k d : ℕ) (ps : List Pair) → Has (get_or (rows_of K D ps) k 0) d → listed ps k d ≡ true
 row_listed K D k d ps h = ⊎_elim
     (λ (l : k < K). (has_passing (λ e. listed ps k e) D d (sym (ap (λ (v : ℕ). bit v d) (row_at K D k ps l)) ∙ h)).1)
     (λ (l : K ≤ k). absurd (omega (arith, ap (λ (v : ℕ). bit v d) (row_past K D k ps l), bit_zero d)))
     (cases_lt k K)
+
+pub lies_wide : (p : PairPlan) → all_inside 64 64 (lent_pairs p) ≡ true
+lies_wide p = inside_wide (lent_keys p) (lent_doors p) (lent_pairs p) p.sizes.few_keys p.sizes.few_doors p.lies
+
+-- a pair of a plan's that passes a test has numbers below 64
+module _ (p : PairPlan) (test : Pair → Bool) (k : ℕ) (z : Pair) (h : k < length (filter test (lent_pairs p))) where
+  pub passes_low : ((get_or (filter test (lent_pairs p)) k z).key < 64) × ((get_or (filter test (lent_pairs p)) k z).door < 64)
+  passes_low = inside_at 64 64 (filter test (lent_pairs p)) k z h (inside_filtered 64 64 test (lent_pairs p) (lies_wide p))
 
 module _ (K D : ℕ) (ps : List Pair) (lies : all_inside K D ps ≡ true) where
   listed_row : (k d : ℕ) → listed ps k d ≡ true → Has (get_or (rows_of K D ps) k 0) d
@@ -184,41 +195,60 @@ rows_none K D = from K 0
     from zero a = refl
     from (suc K) a = ap (λ (v : ℕ). v ∷ map (λ (k : ℕ). passing (λ d. listed [] k d) D) (range_with_len (a + 1) K)) (passing_none D) ∙ ap (λ (z : List ℕ). 0 ∷ z) (from K (a + 1))
 
-pub doors_none : (k : ℕ) → 0 ≡ doors_in k []
+-- ---- the numbers that stand beside a number, gathered one after another onto a set
+has_joined : (m j i : ℕ) → has_bit (joined m j) i ≡ (eqb i j || has_bit m i)
+has_joined m j i = ⊎_elim
+    (λ (q : i ≡ j). has_true (joined m j) i (ap (bit (joined m j)) q ∙ joined_same m j) ∙ sym (or_left (eqb i j) (has_bit m i) (eq-eqb i j q)))
+    (λ (q : i ≡ j → ⊥). ap (λ (v : ℕ). v == 1) (joined_other m j i q) ∙ sym (ap (λ b. b || has_bit m i) (ne_eqb i j q)))
+    (cases_eq i j)
+
+or_turn : (a b c : Bool) → ((a || b) || c) ≡ (b || (a || c))
+or_turn a b c = let p = cases_Bool a in let q = cases_Bool b in grind arith
+
+module _ (near far : Pair → ℕ) (n : ℕ) (beside : List Pair → ℕ → Bool)
+    (low : (p : Pair) → inside 64 64 p.key p.door ≡ true → far p < 64)
+    (none : (i : ℕ) → beside [] i ≡ false)
+    (on : (p : Pair) (ps : List Pair) (i : ℕ) → near p ≡ n → beside (p ∷ ps) i ≡ (eqb i (far p) || beside ps i))
+    (off : (p : Pair) (ps : List Pair) (i : ℕ) → (near p ≡ n → ⊥) → beside (p ∷ ps) i ≡ beside ps i) where
+  abbrev gather : ℕ → Pair → ℕ
+  gather m p = bit_or m ((1 * 2 ^ far p) % 2 ^ 64)
+
+  gather_joined : (m : ℕ) (p : Pair) → far p < 64 → gather m p ≡ joined m (far p)
+  gather_joined m p h = ap (bit_or m) (one_shl (far p) 64 h) ∙ or_joined m (far p)
+
+  gathered : (m : ℕ) (ps : List Pair) → m < 2 ^ 64 → all_inside 64 64 ps ≡ true
+      → fold gather m (filter (λ p. near p == n) ps) ≡ passing (λ i. has_bit m i || beside ps i) 64
+  gathered m [] l a = same_sets m (passing (λ i. has_bit m i || beside [] i) 64)
+      (λ i h. passing_has (λ j. has_bit m j || beside [] j) 64 i (below_has 64 m i l h) (or_left (has_bit m i) (beside [] i) (has_true m i h)))
+      (λ i h. ⊎_elim (λ (t : has_bit m i ≡ true). true_has m i t) (λ (t : beside [] i ≡ true). absurd (both_ways (beside [] i) (none i) t))
+      (or_cases (has_bit m i) (beside [] i) (has_passing (λ j. has_bit m j || beside [] j) 64 i h).1))
+  gathered m (p ∷ ps) l a =
+      let q = and_parts (inside 64 64 p.key p.door) (all_inside 64 64 ps) a in
+      let f = low p q.0 in
+      let taken : List Pair = filter (λ x. near x == n) ps in
+      ⊎_elim
+      (λ (e : near p ≡ n).
+      ap (fold gather m) (cond-true (near p == n) (p ∷ taken) taken (eq-eqb (near p) n e))
+      ∙ ap (λ (v : ℕ). fold gather v taken) (gather_joined m p f)
+      ∙ gathered (joined m (far p)) ps (joined_lt 64 m (far p) l f) q.1
+      ∙ passing_same _ _ 64 (λ i. ap (λ b. b || beside ps i) (has_joined m (far p) i) ∙ or_turn (eqb i (far p)) (has_bit m i) (beside ps i) ∙ ap (λ b. has_bit m i || b) (sym (on p ps i e))))
+      (λ (e : near p ≡ n → ⊥).
+      ap (fold gather m) (cond-false (near p == n) (p ∷ taken) taken (ne_eqb (near p) n e))
+      ∙ gathered m ps l q.1
+      ∙ passing_same _ _ 64 (λ i. ap (λ b. has_bit m i || b) (sym (off p ps i e))))
+      (cases_eq (near p) n)
+
+  gathered_all : (ps : List Pair) → all_inside 64 64 ps ≡ true → fold gather 0 (filter (λ p. near p == n) ps) ≡ passing (beside ps) 64
+  gathered_all ps a = gathered 0 ps (omega arith) a ∙ passing_same _ _ 64 (λ i. ap (λ (v : ℕ). (v == 1) || beside ps i) (bit_zero i))
+
+pub doors_gathered : (k : ℕ) (ps : List Pair) → all_inside 64 64 ps ≡ true → fold (λ m p. bit_or m ((1 * 2 ^ p.door) % 2 ^ 64)) 0 (filter (λ p. p.key == k) ps) ≡ doors_in k ps
 unfolding doors_in
-doors_none k = sym (passing_none 64)
+doors_gathered k = gathered_all (λ p. p.key) (λ p. p.door) k (λ ps d. listed ps k d) (λ p i. (inside_parts 64 64 p.key p.door i).1) (λ i. refl)
+    (λ p ps d e. ap (λ b. b || listed ps k d) (tied_door k d p e))
+    (λ p ps d e. ap (λ b. b || listed ps k d) (apart_key k d p e))
 
-pub keys_none : (d : ℕ) → 0 ≡ keys_in d []
+pub keys_gathered : (d : ℕ) (ps : List Pair) → all_inside 64 64 ps ≡ true → fold (λ m p. bit_or m ((1 * 2 ^ p.key) % 2 ^ 64)) 0 (filter (λ p. p.door == d) ps) ≡ keys_in d ps
 unfolding keys_in
-keys_none d = sym (passing_none 64)
-
--- ---- a loop over the pairs
-or_turn : (a b : Bool) → (a || b) ≡ (b || a)
-or_turn true true = refl
-or_turn true false = refl
-or_turn false true = refl
-or_turn false false = refl
-
-pushed : (x : Pair) (ps : List Pair) (i : ℕ) (z : Pair) → i < length ps → has pair_before x (take (i + 1) ps) ≡ (tied pair_before x (get_or ps i z) || has pair_before x (take i ps))
-pushed x ps i z h = ap (has pair_before x) (take_more ps i z h) ∙ has_push pair_before irr pair_chain total x (get_or ps i z) (take i ps) ∙ or_turn (has pair_before x (take i ps)) (tied pair_before x (get_or ps i z))
-
-module _ (ps : List Pair) (i : ℕ) (z : Pair) (h : i < length ps) (m : ℕ) where
-  module _ (k : ℕ) (inv : m ≡ doors_in k (take i ps)) where
-    pub doors_on : (v : ℕ) → (get_or ps i z).key ≡ k → (get_or ps i z).door < 64 → v ≡ 2 ^ (get_or ps i z).door → bit_or m v ≡ doors_in k (take (i + 1) ps)
-    unfolding doors_in
-    doors_on v e l w = ap (bit_or m) w ∙ or_joined m (get_or ps i z).door ∙ ap (λ (x : ℕ). joined x (get_or ps i z).door) inv
-        ∙ sym (passing_joined _ (λ d. listed (take i ps) k d) 64 (get_or ps i z).door l (λ d. pushed (pair_of k d) ps i z h ∙ ap (λ t. t || listed (take i ps) k d) (tied_door k d (get_or ps i z) e)))
-
-    pub doors_off : ((get_or ps i z).key ≡ k → ⊥) → m ≡ doors_in k (take (i + 1) ps)
-    unfolding doors_in
-    doors_off n = inv ∙ sym (passing_same _ _ 64 (λ d. pushed (pair_of k d) ps i z h ∙ ap (λ t. t || listed (take i ps) k d) (apart_key k d (get_or ps i z) n)))
-
-  module _ (d : ℕ) (inv : m ≡ keys_in d (take i ps)) where
-    pub keys_on : (v : ℕ) → (get_or ps i z).door ≡ d → (get_or ps i z).key < 64 → v ≡ 2 ^ (get_or ps i z).key → bit_or m v ≡ keys_in d (take (i + 1) ps)
-    unfolding keys_in
-    keys_on v e l w = ap (bit_or m) w ∙ or_joined m (get_or ps i z).key ∙ ap (λ (x : ℕ). joined x (get_or ps i z).key) inv
-        ∙ sym (passing_joined _ (λ k. listed (take i ps) k d) 64 (get_or ps i z).key l (λ k. pushed (pair_of k d) ps i z h ∙ ap (λ t. t || listed (take i ps) k d) (tied_key k d (get_or ps i z) e)))
-
-    pub keys_off : ((get_or ps i z).door ≡ d → ⊥) → m ≡ keys_in d (take (i + 1) ps)
-    unfolding keys_in
-    keys_off n = inv ∙ sym (passing_same _ _ 64 (λ k. pushed (pair_of k d) ps i z h ∙ ap (λ t. t || listed (take i ps) k d) (apart_door k d (get_or ps i z) n)))
+keys_gathered d = gathered_all (λ p. p.door) (λ p. p.key) d (λ ps k. listed ps k d) (λ p i. (inside_parts 64 64 p.key p.door i).0) (λ i. refl)
+    (λ p ps k e. ap (λ b. b || listed ps k d) (tied_key k d p e))
+    (λ p ps k e. ap (λ b. b || listed ps k d) (apart_door k d p e))

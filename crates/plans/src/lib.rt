@@ -4,5 +4,6 @@
 
 pub mod makes;
 pub mod pair_plan;
+mod places;
 pub mod plan;
 pub mod table_plan;

@@ -9,7 +9,8 @@ ghost use Rattle.plans.specs.Pairs.{all_inside};
 use numbers::number::Sizes;
 use pairs::pair::Pair;
 
-// A row of doors for each key and a column of keys for each door. They agree, and lie within the sizes.
+// A row of doors for each key and a column of keys for each door. They agree, and lie within the sizes. Arrays, since there is no heap, and
+// not the tables of the search: these are made once, and a plan changes pair by pair.
 #[derive(Clone, Copy)]
 pub struct TablePlan {
     pub(crate) rows: [u64; 64],
@@ -25,7 +26,7 @@ pub struct TablePlan {
     ghost fits: { pairs ≤ sizes.keys * sizes.doors },
 }
 
-// The first `count` pairs of the memory. They ascend, and lie within the sizes.
+// The first `count` pairs of the memory, which is lent, so that the count stands beside it. They ascend, and lie within the sizes.
 #[derive(Drop)]
 pub struct PairPlan<'a> {
     pub(crate) memory: &'a mut [Pair],

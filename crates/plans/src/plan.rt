@@ -3,11 +3,11 @@ ghost use Rattle.std.specs.Prelude.{◌≡◌, ℕ, ◌+◌, ◌-◌, ◌≤◌,
 ghost use Rattle.faults.specs.Causes.{told};
 ghost use Rattle.faults.specs.Faults.{plan_cause};
 ghost use Rattle.groups.specs.Lists.{addition, removal, permitted, withdrawn};
-ghost use Rattle.numbers.specs.Numbers.{key_number, door_number, sizes_of};
-ghost use Rattle.plans.specs.Meaning.{Sound, doors_opened, keys_opening, inside, permit_answer, withdraw_answer};
+ghost use Rattle.numbers.specs.Numbers.{key_number, door_number};
+ghost use Rattle.plans.specs.Meaning.{Sound, doors_opened, keys_opening, permit_answer, withdraw_answer};
 
 use faults::plan::PlanFault;
-use numbers::number::{DoorNo, KeyNo, Sizes};
+use numbers::number::{DoorNo, KeyNo};
 
 pub trait ReadPlan {
     ghost keys: { Self → ℕ };
@@ -61,11 +61,4 @@ pub trait ChangePlan: ReadPlan {
         ensures doors { Self.ReadPlan.doors self.new ≡ Self.ReadPlan.doors self.old }
         ensures rows { Self.ReadPlan.rows self.new ≡ (if is_ok result then withdrawn (removal (key_number key) (door_number door)) (Self.ReadPlan.rows self.old) else Self.ReadPlan.rows self.old) }
         ensures spare { spare self.new ≡ (if is_ok result then spare self.old + 1 else spare self.old) };
-}
-
-// Whether a plan of these sizes has the key and the door.
-pub(crate) fn inside(sizes: Sizes, key: u8, door: u8) -> bool
-    ensures { result ≡ inside (sizes_of sizes).0 (sizes_of sizes).1 key door }
-{
-    key < sizes.keys() && door < sizes.doors()
 }

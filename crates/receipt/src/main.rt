@@ -4,7 +4,6 @@
 
 use anyhow::anyhow;
 use batch::lent::{Closed, Draft};
-use faults::cause::Cause;
 use faults::weekly::{ReadFault, ReceiptFault};
 use pairs::change::Change;
 use std::str::from_utf8;
@@ -13,13 +12,8 @@ use weekly::read::{note, read};
 use weekly::reading::Reading;
 use weekly::receipt::receipt;
 
-const NONE: Change = Change {
-    key: 0,
-    door: 0,
-    added: false,
-};
-
 // The layer that refused: the file itself, the draft it is read into, or the output.
+// Words, and no enum with a `Display`: it would name each layer twice, for this one line.
 fn layer(fault: &ReceiptFault) -> &'static str {
     match fault {
         ReceiptFault::Read(ReadFault::File(_)) => "file",
@@ -30,9 +24,8 @@ fn layer(fault: &ReceiptFault) -> &'static str {
 
 fn print_refusal(rt: &HostRuntime, fault: &ReceiptFault) -> anyhow::Result<()> {
     let layer = layer(fault);
-    let Cause { number, value } = fault.cause();
-    let value = value.unwrap_or(0);
-    println!(rt; "no {layer} {number} {value}")?;
+    let cause = fault.cause();
+    println!(rt; "no {layer} {cause}")?;
     Ok(())
 }
 
@@ -43,20 +36,18 @@ fn print_reading(
     reading: Reading,
 ) -> anyhow::Result<()> {
     let count = reading.count;
-    if reading.length == 0 {
+    let text = from_utf8(note(file))?;
+    if text.is_empty() {
         println!(rt; "read {from}: changes {count}, no note")?;
     } else {
-        let text = from_utf8(note(file))?;
         println!(rt; "read {from}: changes {count}, note \"{text}\"")?;
     }
     Ok(())
 }
 
 fn print_changes(rt: &HostRuntime, batch: &Closed) -> anyhow::Result<()> {
-    for change in batch.changes() {
-        let sign = if change.added { '+' } else { '-' };
-        let key = change.key;
-        let door = change.door;
+    for Change { key, door, added } in batch.changes() {
+        let sign = if *added { '+' } else { '-' };
         println!(rt; "{sign} {key} {door}")?;
     }
     Ok(())
@@ -64,7 +55,7 @@ fn print_changes(rt: &HostRuntime, batch: &Closed) -> anyhow::Result<()> {
 
 // Reads the file again for its changes, and prints them as the draft and the closed batch hold them.
 fn print_steps(rt: &HostRuntime, from: &str, file: &[u8]) -> anyhow::Result<()> {
-    let mut memory = [NONE; 64];
+    let mut memory = [Change::default(); 64];
     let mut draft = Draft::new(&mut memory);
     let Ok(reading) = read(file, &mut draft) else {
         return Ok(());
@@ -76,18 +67,18 @@ fn print_steps(rt: &HostRuntime, from: &str, file: &[u8]) -> anyhow::Result<()> 
     Ok(())
 }
 
-// One file and its receipt. The longest file that can be read has 348 bytes.
+// One file and its receipt, which has the file's length.
 fn issue(rt: &HostRuntime, from: &str, to: &str) -> anyhow::Result<()> {
     let file = fs::read(rt, from)?;
-    let mut out = [0u8; 348];
-    if let Err(fault) = receipt(file.as_slice(), &mut out) {
+    let length = file.len();
+    let mut out = vec![in rt.alloc(); 0u8; length]?;
+    if let Err(fault) = receipt(file.as_slice(), out.as_mut_slice()) {
         return print_refusal(rt, &fault);
     }
     print_steps(rt, from, file.as_slice())?;
-    let length = file.len().min(out.len());
-    fs::write(rt, to, &out[0..length])?;
+    fs::write(rt, to, out.as_slice())?;
     println!(rt; "written {to}: {length} bytes")?;
-    if &out[0..length] == file.as_slice() {
+    if out.as_slice() == file.as_slice() {
         rt.println("its bytes are the file's own")?;
     }
     Ok(())

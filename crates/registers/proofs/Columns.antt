@@ -1,85 +1,74 @@
--- The two columns of a journal's rows: a write to one of them leaves the other.
-use Rattle.std.proofs.Common.{◌≡◌, ℕ, ◌+◌, ◌-◌, ◌<◌, ◌≤◌, false, List, map, length, get_or, set, sym, refl, ap, ◌∙◌, subst, arith}
-use Rattle.std.proofs.lemmas.List.{places, map-set, get_or-map, set-get_or, get_or-set_same, get_or_default, length-map}
+-- The two columns of a journal's rows, and what a column is once its records are moved by one.
+use Rattle.std.proofs.Common.{◌≡◌, ℕ, ◌+◌, ◌-◌, ◌<◌, ◌≤◌, List, [], ◌∷◌, ◌++◌, map, length, get_or, take, drop, set, sym, ap, ◌∙◌, subst, arith, rules}
+use Rattle.std.proofs.lemmas.List.{places, map-append, take-map, drop-map, map-set, get_or-map, length-map, same_lists, get_or_default, get_or-set_same, take_more, take_more_set, take_all}
 use Rattle.std.proofs.lemmas.Bool.{cases_eq}
 use Rattle.groups.specs.declared.group.Group.{Group}
 use Rattle.table.specs.Rows.{with_row, without_row}
-use Rattle.table.proofs.Shifts.{put_is, out_is}
+use Rattle.registers.specs.declared.line.Call.TheVariants.{Enter}
 use Rattle.registers.specs.declared.line.Line.{Line}
-use Rattle.registers.specs.Lines.{beside, column}
+use Rattle.registers.specs.Lines.{said, calls, beside, column}
+use borrow.Rule.Slice.PartMut.{put_mid, put_same}
 
--- a row rewritten with the same value in one column leaves that column
-pub kept : {X : Type 0} (f : Line → X) (ls : List Line) (i : ℕ) (v d : Line) → i < length ls → f v ≡ f (get_or ls i d) → map f (set ls i v) ≡ map f ls
-kept f ls i v d h e = map-set f ls i v ∙ ap (set (map f ls) i) (e ∙ sym (get_or-map f ls i d (f d) h)) ∙ set-get_or (map f ls) i (f d)
-
--- ys is xs with what stands from j up to n moved up by one, and j as it was
-pub record Raised {X : Type 0} (xs ys : List X) (n j : ℕ) : Type 0 where
-  pub low : (k : ℕ) (d : X) → k ≤ j → get_or ys k d ≡ get_or xs k d
-  pub moved : (k : ℕ) (d : X) → j ≤ k → k < n → get_or ys (k + 1) d ≡ get_or xs k d
-  pub past : (k : ℕ) (d : X) → n < k → get_or ys k d ≡ get_or xs k d
-
--- ys is xs with what stands after `at` and below j moved down by one
-pub record Lowered {X : Type 0} (xs ys : List X) (at j : ℕ) : Type 0 where
-  pub low : (k : ℕ) (d : X) → k < at → get_or ys k d ≡ get_or xs k d
-  pub moved : (k : ℕ) (d : X) → at ≤ k → k + 1 < j → get_or ys k d ≡ get_or xs (k + 1) d
-  pub past : (k : ℕ) (d : X) → j ≤ k + 1 → get_or ys k d ≡ get_or xs k d
-
-module _ {X : Type 0} (xs : List X) (n : ℕ) where
-  pub raised_none : Raised xs xs n n
-  raised_none = record { low = λ k d h. refl; moved = λ k d h m. absurd (omega arith); past = λ k d h. refl }
-
-  pub lowered_none : (at : ℕ) → Lowered xs xs at (at + 1)
-  lowered_none at = record { low = λ k d h. refl; moved = λ k d h m. absurd (omega arith); past = λ k d h. refl }
-
-  module _ (ys : List X) (j : ℕ) (e : X) (m : n < length ys) where
-    pub raised_more : 0 < j → j ≤ n → Raised xs ys n j → Raised xs (set ys j (get_or ys (j - 1) e)) n (j - 1)
-    raised_more h l r = record {
-      low = λ k d a. let b = r.low k d in grind (arith, places);
-      moved = λ k d a b.
-          let q = cases_eq k (j - 1) in let p = r.moved k d in let z = get_or_default ys (j - 1) e d (omega arith) in let w = r.low (j - 1) d in
-          grind (arith, places, get_or-set_same);
-      past = λ k d a. let b = r.past k d in grind (arith, places);
-    }
-
-  pub raised_all : (ys : List X) (at : ℕ) (x : X) → at ≤ n → n < length xs → length ys ≡ length xs → Raised xs ys n at → set ys at x ≡ with_row xs n at x
-  raised_all ys at x h m e r = put_is xs ys n at x h m e (λ k d a. r.low k d (omega arith)) r.moved r.past
-
-  module _ (ys : List X) (at j : ℕ) (e : X) (m : j < length ys) where
-    pub lowered_more : at < j → Lowered xs ys at j → Lowered xs (set ys (j - 1) (get_or ys j e)) at (j + 1)
-    lowered_more h r = record {
-      low = λ k d a. let b = r.low k d a in grind (arith, places);
-      moved = λ k d a b.
-          let q = cases_eq k (j - 1) in let p = r.moved k d in let z = get_or_default ys j e d m in let w = r.past j d (omega arith) in
-          grind (arith, places, get_or-set_same);
-      past = λ k d a. let b = r.past k d in grind (arith, places);
-    }
-
-  pub lowered_all : (ys : List X) (at j : ℕ) → at < n → n ≤ length xs → j ≡ n → length ys ≡ length xs → Lowered xs ys at j → ys ≡ without_row xs n at
-  lowered_all ys at j h m q e r = out_is xs ys n at h m e r.low (λ k d a b. r.moved k d a (omega arith)) (λ k d a. r.past k d (omega arith))
-
--- a row of zeros, and a row with another record beside its line
+-- a row of zeros, and a row with another record beside its call
 abbrev pub blank : Line
-blank = record { group = record { keys = 0; doors = 0 }; struck = false; held = record { keys = 0; doors = 0 } }
+blank = record { call = Enter record { keys = 0; doors = 0 }; held = record { keys = 0; doors = 0 } }
 
 abbrev with_held : Line → Group → Line
-with_held l x = record { group = l.group; struck = l.struck; held = x }
+with_held l x = record { call = l.call; held = x }
 
--- the column once what stands beside one line is written beside another
-column_copied : (ls : List Line) (i j : ℕ) → j < length ls → column (set ls i (with_held (get_or ls i blank) (get_or ls j blank).held)) ≡ set (column ls) i (get_or (column ls) j blank.held)
-column_copied ls i j h = map-set beside ls i _ ∙ ap (set (column ls) i) (sym (get_or-map beside ls j blank blank.held h))
+-- ys is xs with x put at the front and what stands up to i moved up by one, and c is left over
+pub record Carried {X : Type 0} (xs ys : List X) (i : ℕ) (x c : X) : Type 0 where
+  pub moved : take i ys ++ c ∷ [] ≡ x ∷ take i xs
+  pub ahead : drop i ys ≡ drop i xs
 
-module _ (xs : List Group) (ls : List Line) (long : length xs ≡ length ls) where
-  pub raised_row : (n j : ℕ) → 0 < j → j ≤ n → n < length ls → Raised xs (column ls) n j → Raised xs (column (set ls j (with_held (get_or ls j blank) (get_or ls (j - 1) blank).held))) n (j - 1)
-  raised_row n j h l m r = subst (λ (ys : List Group). Raised xs ys n (j - 1)) (sym (column_copied ls j (j - 1) (omega arith)))
-      (raised_more xs n (column ls) j blank.held (omega (arith, length-map ls beside)) h l r)
+module _ {X : Type 0} where
+  pub map-put_mid : (f : Line → X) (a k : ℕ) (ls ys : List Line) → map f (put_mid a k ls ys) ≡ put_mid a k (map f ls) (map f ys)
+  map-put_mid f a k ls ys = simp (map-append, take-map, drop-map)
 
-  pub raised_end : (n j at : ℕ) (x : Group) → j ≡ at → at ≤ n → n < length ls → Raised xs (column ls) n j → column (set ls at (with_held (get_or ls at blank) x)) ≡ with_row xs n at x
-  raised_end n j at x q h m r = map-set beside ls at (with_held (get_or ls at blank) x)
-      ∙ raised_all xs n (column ls) at x h (omega arith) (length-map ls beside ∙ sym long) (subst (λ (k : ℕ). Raised xs (column ls) n k) q r)
+  carried_more : (xs ys : List X) (i : ℕ) (x c d : X) → i < length ys → length ys ≡ length xs → Carried xs ys i x c → Carried xs (set ys i c) (i + 1) x (get_or ys i d)
+  carried_more xs ys i x c d h n r =
+      let same : get_or ys i d ≡ get_or xs i d = let g = ap (λ zs. get_or zs 0 d) r.ahead in grind (arith, places) in
+      record {
+        moved = ap (λ zs. zs ++ get_or ys i d ∷ []) (take_more_set ys i c h ∙ r.moved) ∙ (ap (λ z. (x ∷ take i xs) ++ z ∷ []) same ∙ ap (λ zs. x ∷ zs) (sym (take_more xs i d (omega arith))));
+        ahead = same_lists _ _ (search (rules, places)) (λ k e l. let g = ap (λ zs. get_or zs (k + 1) e) r.ahead in grind (arith, places));
+      }
 
-  pub lowered_row : (at j : ℕ) → at < j → j < length ls → Lowered xs (column ls) at j → Lowered xs (column (set ls (j - 1) (with_held (get_or ls (j - 1) blank) (get_or ls j blank).held))) at (j + 1)
-  lowered_row at j h m r = subst (λ (ys : List Group). Lowered xs ys at (j + 1)) (sym (column_copied ls (j - 1) j m))
-      (lowered_more xs j (column ls) at j blank.held (omega (arith, length-map ls beside)) h r)
+  -- x is put at the front of the part from `at` to n, and what stood last in it is left over
+  pub carried_on : (xs ys : List X) (n at : ℕ) (x c : X) → at ≤ n → n < length xs → ys ++ c ∷ [] ≡ x ∷ take (n + 1 - at) (drop at xs) → put_mid at (n + 1 - at) xs ys ≡ with_row xs n at x
+  carried_on xs ys n at x c h m e =
+      same_lists _ _ (let l = ap (λ zs. length zs) e in search (rules, places)) (λ k d l.
+      let g = ap (λ zs. get_or zs (k - at) d) e in let q = ap (λ zs. length zs) e in grind (arith, places))
 
-  pub lowered_end : (n at j : ℕ) → at < n → n ≤ length ls → j ≡ n → Lowered xs (column ls) at j → column ls ≡ without_row xs n at
-  lowered_end n at j h m q r = lowered_all xs n (column ls) at j h (omega arith) q (length-map ls beside ∙ sym long) r
+  -- what stands at i is moved down by one
+  pub moved_down : (xs ys : List X) (i at : ℕ) (e : X) → at < i → i < length xs → length ys ≡ length xs → ys ≡ without_row xs i at → set ys (i - 1) (get_or ys i e) ≡ without_row xs (i + 1) at
+  moved_down xs ys i at e h m n q =
+      same_lists _ _ (search (rules, places)) (λ k d l.
+      let c = cases_eq k (i - 1) in let z = get_or_default ys i e d (omega arith) in let g = ap (λ zs. get_or zs k d) q in let g' = ap (λ zs. get_or zs i d) q in grind (arith, places, get_or-set_same))
+
+module _ (xs : List Group) (ls : List Line) where
+  pub carried_row : (i : ℕ) (x c : Group) → i < length ls → length ls ≡ length xs → Carried xs (column ls) i x c
+      → Carried xs (column (set ls i (with_held (get_or ls i blank) c))) (i + 1) x (get_or ls i blank).held
+  carried_row i x c h n r =
+      subst (λ (ys : List Group). Carried xs ys (i + 1) x (get_or ls i blank).held) (sym (map-set beside ls i (with_held (get_or ls i blank) c)))
+      (subst (λ (z : Group). Carried xs (set (column ls) i c) (i + 1) x z) (get_or-map beside ls i blank blank.held h)
+      (carried_more xs (column ls) i x c blank.held (omega (arith, length-map ls beside)) (length-map ls beside ∙ n) r))
+
+  pub moved_row : (i at : ℕ) → at < i → i < length xs → length ls ≡ length xs → column ls ≡ without_row xs i at
+      → column (set ls (i - 1) (with_held (get_or ls (i - 1) blank) (get_or ls i blank).held)) ≡ without_row xs (i + 1) at
+  moved_row i at h m n q =
+      map-set beside ls (i - 1) (with_held (get_or ls (i - 1) blank) (get_or ls i blank).held)
+      ∙ (ap (set (column ls) (i - 1)) (sym (get_or-map beside ls i blank blank.held (omega arith))) ∙ moved_down xs (column ls) i at blank.held h m (length-map ls beside ∙ n) q)
+
+-- the rows once the part from `at` to n is carried on
+module _ (ls items : List Line) (n at : ℕ) where
+  pub part_column : (i : ℕ) (x c : Group) → at ≤ n → n < length ls → length items ≡ length (take (n + 1 - at) (drop at ls)) → length (take (n + 1 - at) (drop at ls)) ≤ i
+      → Carried (column (take (n + 1 - at) (drop at ls))) (column items) i x c → column (put_mid at (n + 1 - at) ls items) ≡ with_row (column ls) n at x
+  part_column i x c h m q l r =
+      let first = take (n + 1 - at) (drop at ls) in
+      let a : take i (column items) ≡ column items = take_all i (column items) (omega (arith, length-map items beside)) in
+      let b : take i (column first) ≡ take (n + 1 - at) (drop at (column ls)) = take_all i (column first) (omega (arith, length-map first beside)) ∙ sym (ap (take (n + 1 - at)) (drop-map beside at ls) ∙ take-map beside (n + 1 - at) (drop at ls)) in
+      map-put_mid beside at (n + 1 - at) ls items
+      ∙ carried_on (column ls) (column items) n at x c h (omega (arith, length-map ls beside)) (ap (λ zs. zs ++ c ∷ []) (sym a) ∙ r.moved ∙ ap (λ zs. x ∷ zs) b)
+
+  pub part_calls : (k : ℕ) → calls items ≡ calls (take k (drop at ls)) → calls (put_mid at k ls items) ≡ calls ls
+  part_calls k e = map-put_mid said at k ls items ∙ ap (put_mid at k (calls ls)) e ∙ sym (map-put_mid said at k ls (take k (drop at ls))) ∙ ap calls (put_same at k ls)

@@ -1,6 +1,6 @@
 pub mod Columns
 pub mod Lines
-pub mod Nths
 pub mod Rewrites
 pub mod Runs
 pub mod Suffices
+pub mod Searches

@@ -1,17 +1,19 @@
 -- What a journal means, that its records ascend, and that they and its spare places are few.
-use Rattle.std.specs.Prelude.{◌≡◌, ℕ, ◌+◌, ◌-◌, ◌≤◌, Bool, true, false, List, [], ◌∷◌, length, take, refl}
+use Rattle.std.specs.Prelude.{◌≡◌, ℕ, ◌+◌, ◌-◌, ◌≤◌, true, false, List, [], ◌∷◌, length, take, refl}
 use Rattle.std.proofs.Common.{ap, ◌∙◌, arith}
 use Rattle.std.proofs.lemmas.List.{length-take}
-use Rattle.std.proofs.lemmas.Bool.{both_ways, and_parts, and_from, cond_both}
+use Rattle.std.proofs.lemmas.Bool.{both_ways, and_parts, and_from}
 use Rattle.groups.specs.declared.group.Group.{Group}
 use Rattle.groups.specs.Orders.{group_before}
 use Rattle.groups.proofs.Orders.{irreflexive, transitive, total}
 use Rattle.table.specs.Rows.{Ascends}
 use Rattle.table.specs.Sets.{tied, entered, struck}
 use Rattle.table.proofs.Ups.{Up, up_entered, up_struck, up_ascends, tied_same, tied_refl}
+use Rattle.registers.specs.declared.line.Call.{Call}
+use Rattle.registers.specs.declared.line.Call.TheVariants.{Enter, Strike}
 use Rattle.registers.specs.declared.makes.Journal.{Journal}
 use Rattle.registers.specs.Meaning.{capacity}
-use Rattle.registers.specs.Lines.{calls, column, next, left_from, left, same_records}
+use Rattle.registers.specs.Lines.{calls, column, left_from, left, same_records}
 
 -- what the lines leave
 abbrev pub journal_held : Journal → List Group
@@ -21,14 +23,12 @@ journal_held j = left (take j.lines (calls j.memory.now))
 abbrev pub journal_spare : Journal → ℕ
 journal_spare j = capacity (length j.memory.now) - j.lines
 
-left_from_up : (held : List Group) (cs : List (Group × Bool)) → Up group_before held → Up group_before (left_from held cs)
+left_from_up : (held : List Group) (cs : List Call) → Up group_before held → Up group_before (left_from held cs)
 left_from_up held [] u = u
-left_from_up held (c ∷ cs) u = left_from_up (next held c) cs
-    (cond_both c.1 (struck group_before c.0 held) (entered group_before c.0 held) (Up group_before)
-    (λ e. up_struck group_before irreflexive transitive total c.0 held u)
-    (λ e. up_entered group_before irreflexive transitive total c.0 held u))
+left_from_up held (Enter x ∷ cs) u = left_from_up (entered group_before x held) cs (up_entered group_before irreflexive transitive total x held u)
+left_from_up held (Strike x ∷ cs) u = left_from_up (struck group_before x held) cs (up_struck group_before irreflexive transitive total x held u)
 
-pub left_up : (cs : List (Group × Bool)) → Up group_before (left cs)
+pub left_up : (cs : List Call) → Up group_before (left cs)
 left_up cs = left_from_up [] cs tt
 
 pub journal_ascending : (j : Journal) → Ascends group_before (journal_held j) (length (journal_held j))

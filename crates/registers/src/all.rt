@@ -1,4 +1,5 @@
-// Generic code over any register: several records entered or struck in their order.
+// Generic code over any register: several records entered or struck in their order. Two loops, since one over a closure would
+// have to take as clauses what each call answers and leaves, which the trait says already.
 ghost use Rattle.std.specs.Prelude.{◌≡◌};
 ghost use Rattle.registers.specs.Meaning.{entered_run, entered_left, struck_run, struck_left};
 

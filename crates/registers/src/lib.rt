@@ -7,6 +7,7 @@ mod column;
 pub mod journal;
 pub mod line;
 pub mod makes;
+mod places;
 pub mod register;
 pub mod sorted_register;
 pub mod theorems;

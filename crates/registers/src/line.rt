@@ -1,11 +1,17 @@
 // A row of a journal's memory.
 use groups::group::Group;
 
-// The line says that `group` was entered, or struck. `held` has nothing to do with it: the first rows of the memory, one for
-// each record that the journal holds, keep these records there, ascending.
-#[derive(Clone, Copy)]
+// What a line says: that the record was entered, or that it was struck.
+#[derive(Clone, Copy, PartialEq, Eq, Debug)]
+pub enum Call {
+    Enter(Group),
+    Strike(Group),
+}
+
+// `held` has nothing to do with the call: the first rows of the memory, one for each record that the journal holds, keep these
+// records there, ascending.
+#[derive(Clone, Copy, PartialEq, Eq, Debug)]
 pub struct Line {
-    pub group: Group,
-    pub struck: bool,
+    pub call: Call,
     pub held: Group,
 }

@@ -1,4 +1,4 @@
-// The two makes of a register, and what always holds of each.
+// The two makes of a register, and what always holds of each. Their memory is lent, so how much of it is in use stands beside it.
 ghost use Rattle.std.specs.Prelude.{◌≡◌, ℕ, ◌≤◌, true, length, take};
 ghost use Rattle.groups.specs.Orders.{group_before};
 ghost use Rattle.table.specs.Rows.{Ascends};

@@ -1,7 +1,7 @@
 -- The forms in which the search reads a plan.
-use Rattle.std.proofs.Common.{◌≡◌, ℕ, ◌<◌, ◌≤◌, min, List, length, get_or, take, sym, ◌∙◌, subst, ⊎_elim, arith}
+use Rattle.std.proofs.Common.{◌≡◌, ℕ, ◌+◌, ◌-◌, ◌<◌, ◌≤◌, min, List, ◌++◌, length, get_or, take, drop, replicate, sym, ap, ◌∙◌, subst, ⊎_elim, arith}
 use Rattle.std.proofs.lemmas.List.FromFn.{length-map-range_with_len, get_or-map-range_with_len, fill_by_all}
-use Rattle.std.proofs.lemmas.List.{get_or-take, get_or_past, ext_get_or, length-take}
+use Rattle.std.proofs.lemmas.List.{get_or-take, get_or_past, get_or_append_left, get_or-append_right, get_or-drop, get_or-replicate, ext_get_or, length-append, length-drop, length-replicate, length-take}
 use Rattle.std.proofs.lemmas.Bool.{cases_lt}
 use Rattle.masks.specs.Masks.{Has}
 use Rattle.groups.specs.Plans.{Opens}
@@ -20,6 +20,18 @@ padded_at rows k l = get_or-map-range_with_len (λ k. get_or rows k 0) 0 64 k k 
 pub padded_is : (rows all : List ℕ) → length all ≡ 64 → ((k : ℕ) → k < 64 → get_or all k 0 ≡ get_or rows k 0) → all ≡ padded_rows rows
 unfolding padded_rows
 padded_is rows all l f = fill_by_all (λ k. get_or rows k 0) all 64 0 l f
+
+-- the rows copied into the first places of an empty array
+pub padded_copied : (rows front : List ℕ) (n : ℕ) → n ≡ min (length rows) 64 → front ≡ take n rows → front ++ drop n (replicate 64 0) ≡ padded_rows rows
+padded_copied rows front n is e =
+    let none : ℕ = 0 in
+    let zeros : List ℕ = replicate 64 none in
+    let all : List ℕ = front ++ drop n zeros in
+    let long : length front ≡ n = omega (arith, ap length e, length-take n rows) in
+    padded_is rows all (omega (arith, length-append front (drop n zeros), length-drop n zeros, length-replicate 64 none))
+    (λ k l. ⊎_elim
+    (λ (h : k < n). get_or_append_left front (drop n zeros) 0 k (omega arith) ∙ ap (λ (z : List ℕ). get_or z k 0) e ∙ get_or-take n rows k 0 h)
+    (λ (h : n ≤ k). get_or-append_right front (drop n zeros) n k 0 long h ∙ get_or-drop n zeros (k - n) 0 ∙ get_or-replicate 64 (n + (k - n)) 0 0 (omega arith) ∙ sym (get_or_past rows k 0 (omega arith))) (cases_lt k n))
 
 -- the same keys by both, where there are 64 rows or fewer
 pub same_row : (rows : List ℕ) (k : ℕ) → get_or (padded_rows rows) k 0 ≡ get_or (take 64 rows) k 0

@@ -1,5 +1,5 @@
 -- The loop over the keys that are left: what it has written, one turn, its end, and where the table is full.
-use Rattle.std.proofs.Common.{◌≡◌, ℕ, ◌+◌, ◌^◌, ◌<◌, ◌≤◌, List, [], ◌∷◌, ◌++◌, length, get_or, Some, None, sym, ap, ◌∙◌, append_assoc, append-nil, arith}
+use Rattle.std.proofs.Common.{◌≡◌, ℕ, ◌+◌, ◌^◌, ◌<◌, ◌≤◌, List, [], ◌∷◌, ◌++◌, length, get_or, Some, None, sym, ap, ◌∙◌, subst, append_assoc, append-nil, arith}
 use lib.Bits.{bit_and, bit_or, or_zero_r}
 use Rattle.masks.proofs.Bitlaws.{has_below}
 use Rattle.groups.specs.declared.group.Group.{Group}
@@ -7,7 +7,7 @@ use Rattle.search.specs.Fills.{fill_answer, filled_from}
 use Rattle.search.specs.Nodes.{Closes, IsNode}
 use Rattle.search.specs.Parts.{scope_list}
 use Rattle.search.proofs.Fills.{filled_none, filled_cut}
-use Rattle.search.proofs.Peels.{Peeled}
+use Rattle.masks.proofs.Ascending.{Peeled}
 use Rattle.search.proofs.Steps.{Upper, upper_start, upper_next, to_come, tail_list, step_list, here_list}
 use Rattle.search.proofs.Written.{Written, written_none, written_list, written_answer, then_table, then_answer, then_room, then_written, none_past, cut_answer, cut_table}
 
@@ -19,12 +19,16 @@ pub record Progress (rows : List ℕ) (D : ℕ) (watched : List ℕ) (x off free
   pub lists : scope_list rows D watched x (bit_or off rest) ≡ scope_list rows D watched x (bit_or off free) ++ more
   pub written : Written more T T' e end
 
+pub moved : {rows watched : List ℕ} {D x off free e rest later end : ℕ} {T T' : List Group} → rest ≡ later
+    → Progress rows D watched x off free T e rest T' end → Progress rows D watched x off free T e later T' end
+moved {rows} {watched} {D} {x} {off} {free} {e} {rest} {later} {end} {T} {T'} is p = subst (λ (v : ℕ). Progress rows D watched x off free T e v T' end) is p
+
 module _ {rows cols watched : List ℕ} {D x off n m free : ℕ} (node : IsNode rows cols watched D x off n m free) where
   abbrev lists_at : ℕ → ℕ → List Group
   lists_at y o = scope_list rows D watched y o
 
-  pub starts : (T : List Group) (e : ℕ) → e ≤ length T → Progress rows D watched x off free T e free T e
-  starts T e room =
+  starts_free : (T : List Group) (e : ℕ) → e ≤ length T → Progress rows D watched x off free T e free T e
+  starts_free T e room =
       record {
         upper = upper_start free;
         small = has_below 64 free node.free_below;
@@ -32,6 +36,9 @@ module _ {rows cols watched : List ℕ} {D x off n m free : ℕ} (node : IsNode 
         lists = sym (append-nil (lists_at x (bit_or off free)));
         written = written_none T e room;
       }
+
+  pub starts : {rest : ℕ} → rest ≡ free → (T : List Group) (e : ℕ) → e ≤ length T → Progress rows D watched x off free T e rest T e
+  starts is T e room = moved (sym is) (starts_free T e room)
 
   module _ {T T₁ : List Group} {e e₁ rest : ℕ} (room : e ≤ length T) (p : Progress rows D watched x off free T e rest T₁ e₁) where
     pub room_now : e₁ ≤ length T₁
@@ -63,9 +70,6 @@ module _ {rows cols watched : List ℕ} {D x off n m free : ℕ} (node : IsNode 
       (p : Progress rows D watched x off free T e rest T₁ e₁) where
     so_far : Written (lists_at x (bit_or off free) ++ p.more) T₀ T₁ count e₁
     so_far = then_written room begun p.more p.written
-
-    pub room_begun : e ≤ length T
-    room_begun = then_room room begun []
 
     module _ (z : rest ≡ 0) where
       all : lists_at x (bit_or off free) ++ p.more ≡ lists_at x off

@@ -1,5 +1,5 @@
 -- What tables hold, and the plan that they mean.
-use Rattle.std.proofs.Common.{◌≡◌, ℕ, ◌-◌, ◌^◌, ◌<◌, ◌≤◌, List, length, get_or, take, sym, refl, ap, ◌∙◌, subst, ⊎_elim, arith}
+use Rattle.std.proofs.Common.{◌≡◌, ℕ, ◌-◌, ◌^◌, ◌<◌, ◌≤◌, List, length, get_or, take, sym, ap, ◌∙◌, subst, ⊎_elim, arith}
 use Rattle.std.proofs.lemmas.List.{get_or-take, get_or_past, ext_get_or, length-take, take_all}
 use Rattle.std.proofs.lemmas.Bool.{cases_lt}
 use Rattle.masks.specs.Masks.{bit, Has, has_bit}
@@ -11,7 +11,7 @@ use Rattle.groups.specs.Plans.{Opens}
 use Rattle.groups.proofs.Closures.{has_passing, passing_has}
 use Rattle.groups.proofs.Turns.{column, column_at, columns_turned}
 use Rattle.search.specs.declared.tables.Tables.{Tables}
-use Rattle.search.specs.Nodes.{Reads, Transposed}
+use Rattle.search.specs.Nodes.{Transposed}
 use Rattle.search.specs.Parts.{groups_between_of, groups_watched_of, ones_rows, padded_rows, scope_list}
 use Rattle.search.specs.Plans.{plan_doors, plan_rows}
 use Rattle.search.proofs.Columns.{padded_is}
@@ -46,9 +46,6 @@ module _ (t : Tables) where
   row_at k =
       ⊎_elim (λ (l : k < t.keys). get_or-take t.keys t.rows k 0 l)
       (λ (l : t.keys ≤ k). get_or_past (plan_rows t) k 0 (omega (arith, rows_long)) ∙ sym (t.rows_end k l)) (cases_lt k t.keys)
-
-  pub reads_tables : Reads t.rows t.columns t.doors
-  reads_tables = record { to = λ k d l o. sym (t.agree k d l) ∙ o; from = λ k d l o. t.agree k d l ∙ o }
 
   whole_rows : t.rows ≡ padded_rows (plan_rows t)
   whole_rows = padded_is (plan_rows t) t.rows t.tall (λ k l. sym (row_at k))
@@ -89,7 +86,3 @@ module _ (t : Tables) where
   tables_watched base watch =
       wider (padded_rows watch) base 0 ∙ watched_scope (plan_rows t) t.doors base watch
       ∙ ap (λ (r : List ℕ). groups_watched_of r t.doors base watch) few_rows
-
-  pub tables_watched_whole : (base : ℕ) (watch : List ℕ) → length watch ≡ 64 → scope watch base 0 ≡ groups_watched_of (plan_rows t) (plan_doors t) base watch
-  tables_watched_whole base watch long =
-      ap (λ (w : List ℕ). scope w base 0) (padded_is watch watch long (λ k l. refl)) ∙ tables_watched base watch

@@ -5,7 +5,8 @@ use Rattle.std.proofs.lemmas.Bool.{cases_eq}
 use Rattle.masks.specs.Masks.{bit, Has, Within}
 use Rattle.masks.proofs.Bitlaws.{has_and, and_has, has_more_cases, has_or, or_has}
 use Rattle.search.specs.Nodes.{Shares, Gathers, Unmarked}
-use Rattle.search.proofs.Peels.{Peeled, has_zero}
+use Rattle.masks.proofs.Ascending.{Peeled}
+use Rattle.search.proofs.Peels.{has_zero}
 
 -- what is in the set and no more in the rest
 abbrev pub Seen : ℕ → ℕ → ℕ → Type 0
@@ -47,8 +48,11 @@ module _ {rows : List ℕ} {M N : ℕ → Type 0} where
 
 -- ---- a loop over the members of a set
 module _ (set : ℕ) where
-  pub seen_none : (k : ℕ) → Seen set set k → ⊥
-  seen_none k s = s.1 s.0
+  pub within_start : {rest : ℕ} → rest ≡ set → Within rest set
+  within_start e = subst (λ (v : ℕ). Within v set) (sym e) (λ k h. h)
+
+  pub seen_none : {rest : ℕ} → rest ≡ set → (k : ℕ) → Seen set rest k → ⊥
+  seen_none e k s = s.1 (subst (λ (v : ℕ). Has v k) (sym e) s.0)
 
   pub seen_all : (rest : ℕ) → rest ≡ 0 → (k : ℕ) → Has set k → Seen set rest k
   seen_all rest e k h = (h, λ p. has_zero k (subst (λ (v : ℕ). Has v k) e p))

@@ -12,7 +12,8 @@ use Rattle.search.specs.Nodes.{Shares, Closes, IsNode}
 use Rattle.search.specs.Parts.{scope_list}
 use Rattle.search.proofs.Closings.{all_below, all_open, all_keys, some_from, some_to}
 use Rattle.search.proofs.Kept.{kept_listing}
-use Rattle.search.proofs.Peels.{Peeled, has_zero, part_less, above_less}
+use Rattle.masks.proofs.Ascending.{Peeled}
+use Rattle.search.proofs.Peels.{has_zero, part_less, above_less}
 use Rattle.search.proofs.Scopes.{Marks, Scope, some_bit, scope_listing, test_apart}
 
 -- `x & !y`, by numbers

@@ -8,21 +8,18 @@ use Rattle.masks.proofs.Bitlaws.{has_and, and_has, has_more, has_more_same, has_
 use Rattle.masks.proofs.Joins.{first_has, first_only}
 use Rattle.groups.specs.Plans.{Opens}
 use Rattle.search.specs.Nodes.{Cut, Transposed, WithKey}
-use Rattle.search.proofs.Peels.{Peeled, has_zero}
+use Rattle.masks.proofs.Ascending.{Peeled}
+use Rattle.search.proofs.Peels.{has_zero}
 
 -- ---- one key, door by door
 
 -- the key is in the columns of `row` that are no more in `rest`
 pub record KeyTo (cols : List ℕ) (row k rest : ℕ) (now : List ℕ) : Type 0 where
   pub long : length now ≡ 64
-  pub small : rest < 2 ^ 64
   pub part : Within rest row
   pub done : (d : ℕ) → Has row d → (Has rest d → ⊥) → get_or now d 0 ≡ bit_or (get_or cols d 0) (2 ^ k)
   pub to_do : (d : ℕ) → Has rest d → get_or now d 0 ≡ get_or cols d 0
   pub others : (d : ℕ) → (Has row d → ⊥) → get_or now d 0 ≡ get_or cols d 0
-
-pub key_none : (cols : List ℕ) (row k : ℕ) → length cols ≡ 64 → row < 2 ^ 64 → KeyTo cols row k row cols
-key_none cols row k l s = record { long = l; small = s; part = λ d h. h; done = λ d h n. absurd (n h); to_do = λ d h. refl; others = λ d n. refl }
 
 pub key_all : {cols now : List ℕ} {row k rest : ℕ} → KeyTo cols row k rest now → rest ≡ 0 → length cols ≡ 64 → WithKey cols row k now
 key_all i e l =
@@ -44,7 +41,6 @@ module _ {cols now : List ℕ} {row k rest j r : ℕ} (i : KeyTo cols row k rest
   key_more =
       record {
         long = length-set now j (bit_or (get_or now j 0) v) ∙ i.long;
-        small = omega (arith, p.falls, i.small);
         part = λ d h. i.part d (p.part d h);
         done = λ d h n.
             ⊎_elim (λ (q : d ≡ j). subst (λ (z : ℕ). get_or next z 0 ≡ bit_or (get_or cols z 0) (2 ^ k)) (sym q) at_one)

@@ -1,9 +1,9 @@
 -- The groups of a plan with a property of their keys, and the forms in which the search reads a plan.
 use Rattle.std.specs.Prelude.{ℕ, ◌-◌, ◌^◌, min, Bool, not, ◌&&◌, List, ◌++◌, map, length, take, drop, replicate, filter, ◌==◌, bit_and, slice_index}
 use Rattle.std.specs.List.{range_with_len}
-use Rattle.masks.specs.Masks.{has_bit, is_within}
+use Rattle.masks.specs.Masks.{is_within}
 use Rattle.groups.specs.declared.group.Group.{Group}
-use Rattle.groups.specs.Lists.{passing, shared_doors, groups_of, columns}
+use Rattle.groups.specs.Lists.{shared_doors, groups_of, columns}
 
 -- ---- forms of a plan
 
@@ -14,10 +14,6 @@ padded_rows rows = map (λ k. slice_index rows k) (range_with_len 0 64)
 -- 64 rows with every bit
 abbrev pub ones_rows : List ℕ
 ones_rows = replicate 64 (2 ^ 64 - 1)
-
--- the keys that open door d
-abbrev pub column_of : List ℕ → ℕ → ℕ
-column_of rows d = passing (λ k. has_bit (slice_index rows k) d) (length rows)
 
 -- `into` with the columns of the plan of the first 64 rows in its first 64 places
 unfoldable pub turned_into : List ℕ → List ℕ → List ℕ

@@ -1,6 +1,6 @@
 -- Where a search begins.
 use Rattle.std.specs.Prelude.{◌≡◌, ℕ, List, [], Some, None, Option}
-use Rattle.search.specs.declared.nodes.Node.{Node}
+use Rattle.search.specs.declared.states.Node.{Node}
 use Rattle.search.specs.Nodes.{IsNode}
 use Rattle.search.specs.Parts.{scope_list}
 

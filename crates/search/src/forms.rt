@@ -4,6 +4,7 @@ ghost use Rattle.search.specs.Nodes.{Cut, Transposed, WithKey};
 ghost use Rattle.search.specs.Parts.{padded_rows};
 
 use masks::first;
+use masks::members::Members;
 
 // The first 64 rows, and empty ones where there are fewer.
 pub(crate) fn padded(rows: &[u64]) -> [u64; 64]
@@ -11,9 +12,7 @@ pub(crate) fn padded(rows: &[u64]) -> [u64; 64]
 {
     let mut all = [0; 64];
     let n = rows.len().min(64);
-    for k in 0..n {
-        all[k] = rows[k];
-    }
+    all[..n].copy_from_slice(&rows[..n]);
     all
 }
 
@@ -23,10 +22,8 @@ fn join_key(columns: &mut [u64; 64], row: u64, k: usize)
     ensures { WithKey columns.old row k columns.new }
 {
     let key = 1 << k;
-    let mut rest = row;
-    while rest != 0 {
-        columns[rest.trailing_zeros() as usize] |= key;
-        rest &= rest - 1;
+    for d in Members::of(row) {
+        columns[d] |= key;
     }
 }
 
@@ -38,8 +35,8 @@ pub(crate) fn transposed(rows: &[u64; 64], keys: usize, doors: usize) -> [u64; 6
 {
     let mut columns = [0; 64];
     let every = first(doors as u8);
-    for k in 0..keys {
-        join_key(&mut columns, rows[k] & every, k);
+    for (k, row) in rows[..keys].iter().enumerate() {
+        join_key(&mut columns, *row & every, k);
     }
     columns
 }
@@ -50,9 +47,9 @@ pub(crate) fn cut(rows: &[u64; 64], doors: usize) -> [u64; 64]
     ensures { Cut rows.now doors result }
 {
     let every = first(doors as u8);
-    let mut all = [0; 64];
-    for k in 0..64 {
-        all[k] = rows[k] & every;
+    let mut all = *rows;
+    for row in &mut all {
+        *row &= every;
     }
     all
 }

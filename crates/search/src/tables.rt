@@ -1,10 +1,10 @@
 // A plan as the search reads it.
 ghost use Rattle.std.specs.Prelude.{◌≡◌, ℕ, ◌<◌, ◌≤◌, length, slice_index};
 ghost use Rattle.masks.specs.Masks.{bit};
-ghost use Rattle.search.specs.Parts.{column_of, turned_into};
+ghost use Rattle.search.specs.Parts.{turned_into};
 
 // A plan of at most 64 keys and 64 doors, by its rows, for each key the doors that it opens, and by its columns, for each door the keys that open it.
-// There are 64 of each: those past the plan's are empty.
+// There are 64 of each: those past the plan's are empty. Arrays with a count beside them, since the search takes no heap.
 #[derive(Clone, Copy)]
 pub struct Tables {
     pub(crate) rows: [u64; 64],
@@ -20,26 +20,10 @@ pub struct Tables {
     ghost agree: { (k d : ℕ) → d < doors → bit (slice_index rows k) d ≡ bit (slice_index columns d) k },
 }
 
-// The set of the keys that open door d.
-fn column(rows: &[u64], d: usize) -> u64
-    requires few { length rows.now ≤ 64 }
-    requires door { d < 64 }
-    ensures { result ≡ column_of rows.now d }
-{
-    let mut keys = 0;
-    for (k, row) in rows.iter().enumerate() {
-        keys |= ((*row >> d) & 1) << k;
-    }
-    keys
-}
-
 // Writes for each door the set of the keys that open it, of the first 64 keys and for the first 64 doors; what `columns` has past these places stays.
 pub fn transpose(rows: &[u64], columns: &mut [u64])
     ensures { columns.new ≡ turned_into rows.now columns.old }
 {
-    let rows = &rows[..rows.len().min(64)];
     let n = columns.len().min(64);
-    for d in 0..n {
-        columns[d] = column(rows, d);
-    }
+    columns[..n].copy_from_slice(Tables::new(rows, n).columns());
 }

@@ -1,11 +1,21 @@
 -- Both lists of groups in one table, one behind the other.
-use Rattle.std.proofs.Common.{◌≡◌, ℕ, ◌+◌, ◌-◌, ◌*◌, ◌<◌, ◌≤◌, false, cond, ltb, leb, List, length, take, drop, Some, None, Ok, Err, Option, sym, ap, ◌∙◌, arith}
+use Rattle.std.proofs.Common.{◌≡◌, ℕ, ◌+◌, ◌*◌, ◌<◌, ◌≤◌, false, cond, ltb, leb, List, length, Some, None, Ok, Err, Option, sym, refl, ◌∙◌, arith}
 use Rattle.std.proofs.lemmas.Bool.{lt-ltb, le-ltb, cond-true, cond-false}
 use Rattle.std.proofs.lemmas.Bool.Decides.{nat_tests}
 use Rattle.faults.specs.Causes.{bare}
 use Rattle.groups.specs.declared.group.Group.{Group}
 use Rattle.difference.specs.Places.{Written, room_for}
-use Rattle.suite.specs.Steps.{lists_answer, Roomy, Begins}
+use Rattle.std.specs.Option.{ok_or}
+use Rattle.suite.specs.Steps.{lists_answer, Roomy}
+
+-- an option that `ok_or` asked
+pub asked_none : {E : Type 0} (o : Option ℕ) (e f : E) → ok_or o e ≡ Err f → (o ≡ None) × (f ≡ e)
+asked_none (Some x) e f h = cc
+asked_none None e f h = (refl, cc)
+
+pub asked_some : {E : Type 0} (o : Option ℕ) (e : E) (m : ℕ) → ok_or o e ≡ Ok m → o ≡ Some m
+asked_some (Some x) e m h = cc
+asked_some None e m h = cc
 
 some_fits : (n room from m : ℕ) → Some m ≡ cond (leb n room) (Some (from + n)) None → (m ≡ from + n) × (n ≤ room)
 some_fits n room from m e = (grind (arith, nat_tests), grind (arith, nat_tests))
@@ -38,35 +48,3 @@ module _ (new lapsed T T₁ T₂ : List Group) (nl ll : ℕ) (r s : Option ℕ) 
         let q = room_all T₁ m ll (omega (arith, roomy.1)) in
         sym (cond-true (ltb ll (length lapsed)) (Err (bare 19)) (Ok (length new, length lapsed)) (lt-ltb ll (length lapsed) (omega arith)))
         ∙ sym (cond-false (ltb nl (length new)) (Err (bare 18)) (cond (ltb ll (length lapsed)) (Err (bare 19)) (Ok (length new, length lapsed))) new_within)
-
-    module _ (end : ℕ) (d : s ≡ Some end) where
-      second : (end ≡ m + length lapsed) × (length lapsed ≤ room_for T₁ m ll)
-      second = some_fits (length lapsed) (room_for T₁ m ll) m end (sym d ∙ v.answer)
-
-      pub both_counted : Ok (m, end - m) ≡ lists_answer nl ll new lapsed
-      both_counted =
-          let a = first.0 in
-          let b = second.0 in
-          let f = second.1 in
-          let x : m ≡ length new = omega arith in
-          let y : end - m ≡ length lapsed = omega arith in
-          ap (λ z. Ok (z, end - m)) x ∙ ap (λ z. Ok (length new, z)) y
-          ∙ sym (cond-false (ltb ll (length lapsed)) (Err (bare 19)) (Ok (length new, length lapsed)) (le-ltb ll (length lapsed) (omega arith)))
-          ∙ sym (cond-false (ltb nl (length new)) (Err (bare 18)) (cond (ltb ll (length lapsed)) (Err (bare 19)) (Ok (length new, length lapsed))) new_within)
-
-      pub both_begin : Begins new lapsed T₂
-      both_begin =
-          let a = first.0 in
-          let x : m ≡ length new = omega arith in
-          record {
-            first = ap (λ z. take z T₂) (sym x) ∙ v.kept ∙ ap (λ z. take z T₁) x ∙ w.written first.1;
-            second = ap (λ z. take (length lapsed) (drop z T₂)) (sym x) ∙ v.written second.1;
-          }
-
-      pub both_within : m + (end - m) ≤ length T
-      both_within =
-          let a = first.0 in
-          let b = first.1 in
-          let d = second.0 in
-          let f = second.1 in
-          omega arith

@@ -1,5 +1,5 @@
 -- What a booking answers, cause by cause, and what it leaves.
-use Rattle.std.proofs.Common.{◌≡◌, ℕ, ◌+◌, ◌-◌, ◌<◌, ◌≤◌, Bool, true, false, cond, ltb, List, length, take, drop, is_ok, Some, None, Ok, Err, Option, Result, sym, refl, ap, ◌∙◌, subst, arith, length-take, get_or-take}
+use Rattle.std.proofs.Common.{◌≡◌, ℕ, ◌+◌, ◌-◌, ◌<◌, ◌≤◌, Bool, true, false, cond, ltb, List, length, take, is_ok, Some, None, Ok, Err, Option, Result, sym, refl, ap, ◌∙◌, subst, arith, length-take, get_or-take}
 use Rattle.std.proofs.lemmas.Bool.{cond-true, cond-false, true≢false, ltb-false, le-ltb}
 use Rattle.faults.specs.declared.cause.Cause.{Cause}
 use Rattle.faults.specs.declared.suite.SuiteFault.{SuiteFault}
@@ -19,7 +19,7 @@ use Rattle.ledger.specs.Ledger.{Ledger, additions, removals, first_of, changes_f
 use Rattle.ledger.specs.Laws.{AscendingGroups}
 use Rattle.ledger.proofs.Bookings.{arising_ascends, lapsing_ascends}
 use Rattle.suite.specs.Bookings.{Booking, Ready, Fits}
-use Rattle.suite.specs.Steps.{plan_fault, coming, going, lists_answer, Roomy, Begins, Compares, Addable}
+use Rattle.suite.specs.Steps.{plan_fault, coming, going, lists_answer, Roomy, Compares, Addable}
 use Rattle.ledger.proofs.Refusals.{past}
 use Rattle.suite.proofs.Batches.{batch_addable}
 use Rattle.suite.proofs.Runs.{follow_held, follow_spare}
@@ -96,7 +96,7 @@ module _ (L : Ledger) (batch : List Change) (nl ll : ℕ) where
 -- ---- what is left
 
 pub refused : (L : Ledger) (batch : List Change) (new lapsed : List Group) (f : Cause) → Err f ≡ book_answer L batch (length new) (length lapsed) → Booking L L batch new new lapsed lapsed (Err f)
-refused L batch new lapsed f e = record { answer = e; after = refl; new_list = refl; lapsed_list = refl }
+refused L batch _ _ f e = record { answer = e; after = refl; new_list = refl; lapsed_list = refl }
 
 module _ (L : Ledger) (batch : List Change) (coming going new lapsed : List Group) (ready : Ready L batch) (fits : Fits L batch (length new) (length lapsed) coming going) where
   judged : book_answer L batch (length new) (length lapsed) ≡ stepped L batch (length new) (length lapsed)
@@ -194,12 +194,6 @@ module _ (new lapsed : List Group) (a b : ℕ) (p : ℕ × ℕ) (e : Ok p ≡ li
   within_lapsed : (ltb b (length lapsed) ≡ false) × (◌≡◌ {A = Counts} (Ok (length new, length lapsed)) (Ok p))
   within_lapsed = past (ltb b (length lapsed)) (bare 19) (Ok (length new, length lapsed)) p within.1
 
-  pub counts_new : p.0 ≡ length new
-  counts_new = let f = within_lapsed.1 in cc
-
-  pub counts_lapsed : p.1 ≡ length lapsed
-  counts_lapsed = let f = within_lapsed.1 in cc
-
   pub limit_new : length new ≤ a
   limit_new = ltb-false a (length new) within.0
 
@@ -229,30 +223,13 @@ module _ (L : Ledger) (batch : List Change) (t : TwoPlans) (c : Compares L.doors
   lists_of a b = ap (λ z. lists_answer a b z (going t)) coming_is ∙ ap (λ z. lists_answer a b (arising L batch) z) going_is
 
   -- found within limits that do not exceed what the lists count for
-  module _ (nl ll a b n m : ℕ) (T : List Group) (e : Ok (n, m) ≡ lists_answer a b (coming t) (going t)) (s : Begins (coming t) (going t) T) (h : a ≤ list_capacity nl) (k : b ≤ list_capacity ll) where
-    front : take (n - 0) T ≡ arising L batch
-    front =
-        let x : n - 0 ≡ length (coming t) = (let q = counts_new (coming t) (going t) a b (n, m) e in omega arith) in
-        ap (λ z. take z T) x ∙ s.first ∙ coming_is
-
-    behind : take ((n + m) - n) (drop n T) ≡ lapsing L batch
-    behind =
-        let x : n ≡ length (coming t) = counts_new (coming t) (going t) a b (n, m) e in
-        let y : (n + m) - n ≡ length (going t) = (let q = counts_lapsed (coming t) (going t) a b (n, m) e in omega arith) in
-        ap (λ z. take z (drop n T)) y ∙ ap (λ z. take (length (going t)) (drop z T)) x ∙ s.second ∙ going_is
-
-    pub found_fits : Fits L batch nl ll (take (n - 0) T) (take ((n + m) - n) (drop n T))
-    found_fits = record {
-      coming = front;
-      going = behind;
-      counted =
-          let x = counts_new (coming t) (going t) a b (n, m) e in
-          let y = counts_lapsed (coming t) (going t) a b (n, m) e in
-          let p : length (take (n - 0) T) ≡ n = ap length front ∙ sym (ap length coming_is) ∙ sym x in
-          let q : length (take ((n + m) - n) (drop n T)) ≡ m = ap length behind ∙ sym (ap length going_is) ∙ sym y in
-          ap (λ z. Ok (z, length (take ((n + m) - n) (drop n T)))) p ∙ ap (λ z. Ok (n, z)) q
-          ∙ lists_more (coming t) (going t) a b (n, m) e (list_capacity nl) (list_capacity ll) h k ∙ lists_of (list_capacity nl) (list_capacity ll);
-    }
+  pub found_fits : (nl ll a b : ℕ) (new lapsed : List Group) → (Ok (length new, length lapsed) ≡ lists_answer a b (coming t) (going t)) × (new ≡ coming t) × (lapsed ≡ going t)
+      → a ≤ list_capacity nl → b ≤ list_capacity ll → Fits L batch nl ll new lapsed
+  found_fits nl ll a b new lapsed f h k = record {
+    coming = f.1 ∙ coming_is;
+    going = f.2 ∙ going_is;
+    counted = lists_more (coming t) (going t) a b (length new, length lapsed) f.0 (list_capacity nl) (list_capacity ll) h k ∙ lists_of (list_capacity nl) (list_capacity ll);
+  }
 
 -- a refusal as a call tells it
 pub refused_told : (L : Ledger) (batch : List Change) (new lapsed : List Group) (r : Result (ℕ × ℕ) SuiteFault) (f : SuiteFault) → r ≡ Err f → Err (suite_cause f) ≡ book_answer L batch (length new) (length lapsed) → Booking L L batch new new lapsed lapsed (told suite_cause r)

@@ -3,7 +3,6 @@ pub mod Compares
 pub mod Fills
 pub mod Finds
 pub mod Founds
-pub mod Held
 pub mod Judged
 pub mod Made
 pub mod Runs

@@ -1,6 +1,6 @@
 -- One turn of a loop over the changes of a batch, and its end.
 use Rattle.std.proofs.Common.{◌≡◌, ℕ, ◌+◌, ◌-◌, ◌<◌, ◌≤◌, Bool, true, false, cond, List, [], ◌∷◌, ◌++◌, length, get_or, take, drop, set, is_ok, Some, None, Ok, Err, Option, Result, sym, refl, ap, ◌∙◌, subst, arith}
-use Rattle.std.proofs.lemmas.List.{at_drop_more, at_drop_all, drop_more, take_more, take_more_set}
+use Rattle.std.proofs.lemmas.List.{at_drop_more, drop_more, take_more, take_more_set}
 use Rattle.std.proofs.lemmas.Bool.{and_parts, and_from, true≢false}
 use Rattle.std.proofs.lemmas.Bool.Decides.{nat_tests}
 use Rattle.numbers.specs.Numbers.{number_answer}
@@ -66,13 +66,6 @@ both_ways false m n l e = omega arith
 pub additions_removals : (cs : List Change) → additions cs + removals cs ≡ length cs
 additions_removals [] = refl
 additions_removals (c ∷ cs) = let e : length cs + 1 ≡ length (c ∷ cs) = omega arith in both_ways c.added (additions cs) (removals cs) (length cs) (additions_removals cs) ∙ e
-
--- a count of additions, one change on and at the end
-pub count_more : (cs : List Change) (i n n' : ℕ) → i < length cs → n + additions (drop i cs) ≡ additions cs → n' ≡ n + cond (get_or cs i blank).added 1 0 → n' + additions (drop (i + 1) cs) ≡ additions cs
-count_more cs i n n' h inv e = let s = at_drop_more additions cs i blank h in omega arith
-
-pub count_all : (cs : List Change) (i n : ℕ) → length cs ≤ i → n + additions (drop i cs) ≡ additions cs → n ≡ additions cs
-count_all cs i n h inv = let s = at_drop_all additions cs i h in omega arith
 
 -- the first rows of a table that are those of a plan, one row on
 pub rows_more : (table rows : List ℕ) (i v : ℕ) → i < length table → i < length rows → v ≡ get_or rows i 0 → take i table ≡ take i rows → take (i + 1) (set table i v) ≡ take (i + 1) rows

@@ -1,5 +1,5 @@
 -- The steps of a booking: the calls that bring a register and a plan from one state to the next, each answered Ok in its turn.
-use Rattle.std.specs.Prelude.{◌≡◌, ℕ, ◌+◌, ◌-◌, ◌*◌, ◌≤◌, Bool, true, false, cond, ◌&&◌, List, [], ◌∷◌, length, take, drop, Some, None, Ok, Err, Option, Result, nat_lt}
+use Rattle.std.specs.Prelude.{◌≡◌, ℕ, ◌+◌, ◌-◌, ◌*◌, ◌≤◌, Bool, true, false, cond, ◌&&◌, List, [], ◌∷◌, length, Some, None, Ok, Err, Option, Result, nat_lt}
 use Rattle.faults.specs.declared.cause.Cause.{Cause}
 use Rattle.faults.specs.Causes.{bare}
 use Rattle.batch.specs.Changes.{in_range}
@@ -75,11 +75,6 @@ lists_answer new_limit lapsed_limit new lapsed =
 -- a table of so many places has room to look for as many groups of both kinds
 abbrev pub Roomy : ℕ → ℕ → ℕ → Type 0
 Roomy places new_limit lapsed_limit = (2 * new_limit ≤ places) × (new_limit + 2 * lapsed_limit ≤ places)
-
--- the table begins with the first list, and goes on with the second
-pub record Begins (new lapsed table : List Group) : Type 0 where
-  pub first : take (length new) table ≡ new
-  pub second : take (length lapsed) (drop (length new) table) ≡ lapsed
 
 -- ---- what a batch asks of the plan alone
 

@@ -10,7 +10,7 @@ ghost use Rattle.suite.specs.Of.{ledger};
 ghost use Rattle.suite.specs.Steps.{Compares};
 
 use crate::compare::compare;
-use crate::lists::{copy_over, find_groups, is_out_of_step};
+use crate::lists::{Found, copy_over, find_groups, is_out_of_step};
 use crate::steps::{permit_all, withdraw_all};
 use batch::lent::Closed;
 use difference::two::TwoPlans;
@@ -24,12 +24,11 @@ use registers::register::Register;
 // A list counts for at most so many groups.
 const LIST: usize = 65536;
 
-// Most bookings find few groups: a small table is cleared at once, and a large one only where the small one does not suffice.
+// Most bookings find few groups: a small table is cleared at once, and a large one only where the small one does not suffice. Both are
+// arrays on the stack, since booking allocates nothing.
 const SMALL: usize = 4096;
 
 const LARGE: usize = 196608;
-
-const NOTHING: Group = Group { keys: 0, doors: 0 };
 
 // Whether so many new and so many lapsed groups want more places than the register has.
 fn wants_places<R: Register>(register: &R, new: usize, lapsed: usize) -> bool
@@ -44,23 +43,26 @@ fn wants_places<R: Register>(register: &R, new: usize, lapsed: usize) -> bool
     }
 }
 
-// Books a batch that the plan takes, with the groups that come up and that lapse at hand.
+// That the plan takes the batch, `Ready`, is a clause of the three functions below and no field of a type: it speaks of the plan as it is, which they change.
+
+// Books a batch that the plan takes, with the groups that come up and that lapse at hand. The two lists to fill are two parameters: a
+// struct that borrows both would have to promise, at each call, that it still borrows the same two.
 fn settle<P: ChangePlan, R: Register>(
     changes: &[Change],
     plan: &mut P,
     register: &mut R,
-    coming: &[Group],
-    going: &[Group],
+    found: Found,
     new: &mut [Group],
     lapsed: &mut [Group],
 ) -> Result<(usize, usize), SuiteFault>
     requires ready { Ready (ledger P.ReadPlan P.ChangePlan.own R.Register plan.old register.old) changes.now }
-    requires fits { Fits (ledger P.ReadPlan P.ChangePlan.own R.Register plan.old register.old) changes.now (length new.old) (length lapsed.old) coming.now going.now }
+    requires fits { Fits (ledger P.ReadPlan P.ChangePlan.own R.Register plan.old register.old) changes.now (length new.old) (length lapsed.old) found.coming.now found.going.now }
     ensures { Booking (ledger P.ReadPlan P.ChangePlan.own R.Register plan.old register.old) (ledger P.ReadPlan P.ChangePlan.own R.Register plan.new register.new) changes.now new.old new.new lapsed.old lapsed.new (told suite_cause result) }
 {
-    if is_out_of_step(register, coming, going) {
+    if is_out_of_step(register, found) {
         return Err(SuiteFault::OutOfStep);
     }
+    let Found { coming, going } = found;
     if wants_places(register, coming.len(), going.len()) {
         return Err(SuiteFault::TooFewPlaces);
     }
@@ -73,7 +75,8 @@ fn settle<P: ChangePlan, R: Register>(
     Ok((coming.len(), going.len()))
 }
 
-// Looks for the groups in a table that has room for as many as two lists count for.
+// Looks for the groups in a table that has room for as many as two lists count for. A function of its own, and not one with the table's
+// size as a parameter: the small table falls back on the large one, and the large one on nothing.
 fn book_at_length<P: ChangePlan, R: Register>(
     plans: &TwoPlans,
     changes: &[Change],
@@ -86,22 +89,14 @@ fn book_at_length<P: ChangePlan, R: Register>(
     requires compares { Compares (P.ReadPlan.doors plan.old) (P.ReadPlan.rows plan.old) changes.now plans.now }
     ensures { Booking (ledger P.ReadPlan P.ChangePlan.own R.Register plan.old register.old) (ledger P.ReadPlan P.ChangePlan.own R.Register plan.new register.new) changes.now new.old new.new lapsed.old lapsed.new (told suite_cause result) }
 {
-    let mut table = [NOTHING; LARGE];
-    let (n, m) = find_groups(
+    let mut table = [Group::default(); LARGE];
+    let found = find_groups(
         plans,
         &mut table,
         new.len().min(LIST),
         lapsed.len().min(LIST),
     )?;
-    settle(
-        changes,
-        plan,
-        register,
-        &table[0..n],
-        &table[n..n + m],
-        new,
-        lapsed,
-    )
+    settle(changes, plan, register, found, new, lapsed)
 }
 
 // Looks for the groups in a small table first.
@@ -117,22 +112,14 @@ fn book_compared<P: ChangePlan, R: Register>(
     requires compares { Compares (P.ReadPlan.doors plan.old) (P.ReadPlan.rows plan.old) changes.now plans.now }
     ensures { Booking (ledger P.ReadPlan P.ChangePlan.own R.Register plan.old register.old) (ledger P.ReadPlan P.ChangePlan.own R.Register plan.new register.new) changes.now new.old new.new lapsed.old lapsed.new (told suite_cause result) }
 {
-    let mut table = [NOTHING; SMALL];
+    let mut table = [Group::default(); SMALL];
     match find_groups(
         plans,
         &mut table,
         new.len().min(SMALL / 4),
         lapsed.len().min(SMALL / 4),
     ) {
-        Ok((n, m)) => settle(
-            changes,
-            plan,
-            register,
-            &table[0..n],
-            &table[n..n + m],
-            new,
-            lapsed,
-        ),
+        Ok(found) => settle(changes, plan, register, found, new, lapsed),
         Err(_) => book_at_length(plans, changes, plan, register, new, lapsed),
     }
 }

@@ -1,4 +1,5 @@
-// A call to a suite with what it is given, and its answer once it was made. It owns its lists, of any length.
+// A call to a suite with what it is given, and its answer once it was made. It owns its lists, of any length. It is an enum and not a
+// closure, since the law speaks of every list of calls.
 use faults::number::NumberFault;
 use faults::suite::BookingFault;
 use groups::group::Group;

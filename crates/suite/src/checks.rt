@@ -41,11 +41,5 @@ pub(crate) fn count_additions(changes: &[Change]) -> usize
     ensures adds { result ≡ additions changes.now }
     ensures all { result + removals changes.now ≡ length changes.now }
 {
-    let mut count = 0;
-    for change in changes {
-        if change.added {
-            count += 1;
-        }
-    }
-    count
+    changes.iter().filter(|change| change.added).count()
 }

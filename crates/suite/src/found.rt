@@ -12,12 +12,10 @@ use groups::group::Group;
 use plans::plan::ChangePlan;
 use registers::all::enter_all;
 use registers::register::Register;
-use search::groups;
+use search::tables::Tables;
 
-// No register has more places.
+// No register has more places. The table is an array on the stack, since founding allocates nothing.
 const PLACES: usize = 65536;
-
-const NOTHING: Group = Group { keys: 0, doors: 0 };
 
 // Writes the groups of the plan to the table and answers how many there are, or None where there are more than it has places.
 fn list_groups(rows: &[u64], doors: usize, table: &mut [Group]) -> Option<usize>
@@ -25,7 +23,7 @@ fn list_groups(rows: &[u64], doors: usize, table: &mut [Group]) -> Option<usize>
     requires doors { doors ≤ 64 }
     ensures { MatchOption result (length table.old < length (groups_of rows.now doors)) (λ n. (n ≡ length (groups_of rows.now doors)) × (n ≤ length table.old) × (take n table.new ≡ groups_of rows.now doors)) }
 {
-    groups(rows, doors, table, 0)
+    Tables::new(rows, doors).groups(table, 0)
 }
 
 // Enters every group of the plan, and answers how many there are. What the register then holds is the founding list. A refusal changes nothing.
@@ -36,7 +34,7 @@ pub fn found<P: ChangePlan, R: Register>(plan: &P, register: &mut R) -> Result<u
     if register.count() > 0 {
         return Err(SuiteFault::NotEmpty);
     }
-    let mut memory = [NOTHING; PLACES];
+    let mut memory = [Group::default(); PLACES];
     let table = &mut memory[0..register.spare()];
     let keys = plan.keys() as usize;
     let rows = rows_of(plan);

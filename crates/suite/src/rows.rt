@@ -1,4 +1,5 @@
-// The rows of a plan as a plain table, and a batch carried out on them.
+// The rows of a plan as a plain table, and a batch carried out on them: removals and additions in a loop each, as the plan itself
+// is changed. That all changes are in range is a clause of three functions here and no type: one would be made and taken apart for each booking once.
 ghost use Rattle.std.specs.Prelude.{◌≡◌, ◌<◌, ◌≤◌, true, length, take};
 ghost use Rattle.batch.specs.Changes.{in_range};
 ghost use Rattle.groups.specs.Lists.{withdrawn, permitted, removals_out, additions_in, carried_out};
@@ -9,7 +10,7 @@ use numbers::number::KeyNo;
 use pairs::change::Change;
 use plans::plan::ReadPlan;
 
-// The row of each key of the plan, in a table of 64.
+// The row of each key of the plan, in a table of 64: by the number of the key, from which the key is made.
 pub(crate) fn rows_of<P: ReadPlan>(plan: &P) -> [u64; 64]
     ensures long { length result ≡ 64 }
     ensures rows { take (P.ReadPlan.keys plan.now) result ≡ P.ReadPlan.rows plan.now }
@@ -17,7 +18,7 @@ pub(crate) fn rows_of<P: ReadPlan>(plan: &P) -> [u64; 64]
     let mut rows = [0; 64];
     let keys = plan.keys();
     for key in 0..keys {
-        if let Ok(number) = KeyNo::new(key) {
+        if let Ok(number) = KeyNo::try_from(key) {
             rows[key as usize] = plan.doors_of(number);
         }
     }

@@ -25,12 +25,6 @@ use pairs::change::Change;
 use plans::plan::ChangePlan;
 use registers::register::Register;
 
-const BLANK: Change = Change {
-    key: 0,
-    door: 0,
-    added: false,
-};
-
 // Puts the changes into the draft, one after the other.
 fn fill(draft: &mut Draft, list: &[Change]) -> Result<(), DraftFault>
     ensures answer { told draft_cause result ≡ unless (puts_fault (capacity_of (memory_of draft.old)) (changes draft.old) list.now) (Ok tt) }
@@ -52,7 +46,7 @@ fn book_changes<P: ChangePlan, R: Register>(
 ) -> Result<(usize, usize), BookingFault>
     ensures { Booked (ledger P.ReadPlan P.ChangePlan.own R.Register plan.old register.old) (ledger P.ReadPlan P.ChangePlan.own R.Register plan.new register.new) list.now new.old new.new lapsed.old lapsed.new (told booking_cause result) }
 {
-    let mut memory = [BLANK; 64];
+    let mut memory = [Change::default(); 64];
     let mut draft = Draft::new(&mut memory);
     fill(&mut draft, list)?;
     let batch = draft.close();

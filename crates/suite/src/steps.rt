@@ -1,4 +1,5 @@
-// A batch carried out on a plan of any make, where no call of it is refused.
+// A batch carried out on a plan of any make, where no call of it is refused. Removals and additions have a loop each: what a withdrawal
+// and a permission ask and leave differs in every clause.
 ghost use Rattle.std.specs.Prelude.{◌≡◌, ◌+◌, ◌-◌, Ok};
 ghost use Rattle.groups.specs.Lists.{withdrawn, permitted, removals_out, additions_in, carried_out};
 ghost use Rattle.plans.specs.Meaning.{withdraw_answer, permit_answer};
@@ -16,10 +17,10 @@ fn withdraw_pair<P: ChangePlan>(plan: &mut P, change: Change)
     ensures rows { P.ReadPlan.rows plan.new ≡ withdrawn change (P.ReadPlan.rows plan.old) }
     ensures spare { P.ChangePlan.spare plan.new ≡ P.ChangePlan.spare plan.old + 1 }
 {
-    let Ok(key) = KeyNo::new(change.key) else {
+    let Ok(key) = KeyNo::try_from(change.key) else {
         return;
     };
-    let Ok(door) = DoorNo::new(change.door) else {
+    let Ok(door) = DoorNo::try_from(change.door) else {
         return;
     };
     let _ = plan.withdraw(key, door);
@@ -32,10 +33,10 @@ fn permit_pair<P: ChangePlan>(plan: &mut P, change: Change)
     ensures rows { P.ReadPlan.rows plan.new ≡ permitted change (P.ReadPlan.rows plan.old) }
     ensures spare { P.ChangePlan.spare plan.new ≡ P.ChangePlan.spare plan.old - 1 }
 {
-    let Ok(key) = KeyNo::new(change.key) else {
+    let Ok(key) = KeyNo::try_from(change.key) else {
         return;
     };
-    let Ok(door) = DoorNo::new(change.door) else {
+    let Ok(door) = DoorNo::try_from(change.door) else {
         return;
     };
     let _ = plan.permit(key, door);

@@ -2,22 +2,16 @@
 #![tactic(auto)]
 
 ghost use Rattle.std.specs.Prelude.{◌≡◌, ℕ, ◌+◌, ◌-◌, ◌<◌, ◌≤◌, Bool, true, false, ◌&&◌, length, take, if◌then◌else◌, Ok, Err, MatchResult, nat_le, nat_lt};
-ghost use Rattle.table.specs.Laws.{Sorting};
+ghost use Rattle.table.specs.Laws.{Sorting, TotalOrder};
 ghost use Rattle.table.specs.Rows.{Ascends, FoundAt, with_row, without_row};
 ghost use Rattle.table.specs.Sets.{placed, entered, struck};
 
-// A kind of record, with the order that its tables ascend by.
-pub trait Record: Copy {
+// A kind of record. Its tables ascend by its order, which is total.
+pub trait Record: Copy + Ord {
+    // the order as a test
     ghost before: { Self → Self → Bool };
 
-    fn less(&self, other: &Self) -> bool
-        ensures { result ≡ before self.now other.now };
-
-    ghost irreflexive: { (x : Self) → before x x ≡ false };
-
-    ghost transitive: { (x y z : Self) → before x y ≡ true → before y z ≡ true → before x z ≡ true };
-
-    ghost total: { (x y : Self) → before x y ≡ false → before y x ≡ false → x ≡ y };
+    ghost order: { TotalOrder before Self.cmp };
 }
 
 // Where `x` stands among the first `count` rows, or where it would go. A count past the memory's end counts as its length.
@@ -26,24 +20,11 @@ pub fn find<T: Record>(rows: &[T], count: usize, x: &T) -> Result<usize, usize>
     ensures value { Ascends T.before rows.now count → result ≡ placed T.before x.now (take count rows.now) }
     ensures inside { MatchResult result (λ i. FoundAt rows.now count x.now i × (i < length rows.now)) (λ i. (i ≤ count) × (i ≤ length rows.now)) }
 {
-    let mut low = 0;
-    let mut high = count.min(rows.len());
-    while low < high {
-        let mid = low + (high - low) / 2;
-        let row = rows[mid];
-        if row.less(x) {
-            low = mid + 1;
-        } else if x.less(&row) {
-            high = mid;
-        } else {
-            return Ok(mid);
-        }
-    }
-    Err(low)
+    rows[..count.min(rows.len())].binary_search(x)
 }
 
 // Writes `x` at `at`, and moves the rows from there up to `count` up by one. False, and nothing done, where `at` is
-// past `count` or no row is free.
+// past `count` or no row is free: a flag alone, since no value goes with it and the table of causes has no number for it.
 pub fn put<T: Record>(rows: &mut [T], count: usize, at: usize, x: T) -> bool
     ensures test { result ≡ (nat_le at count && nat_lt count (length rows.old)) }
     ensures after { rows.new ≡ (if result then with_row rows.old count at x else rows.old) }
@@ -53,11 +34,7 @@ pub fn put<T: Record>(rows: &mut [T], count: usize, at: usize, x: T) -> bool
     if count < at || rows.len() <= count {
         return false;
     }
-    let mut j = count;
-    while at < j {
-        rows[j] = rows[j - 1];
-        j -= 1;
-    }
+    rows.copy_within(at..count, at + 1);
     rows[at] = x;
     true
 }
@@ -73,11 +50,7 @@ pub fn take_out<T: Record>(rows: &mut [T], count: usize, at: usize) -> bool
     if count <= at || rows.len() < count {
         return false;
     }
-    let mut j = at + 1;
-    while j < count {
-        rows[j - 1] = rows[j];
-        j += 1;
-    }
+    rows.copy_within(at + 1..count, at);
     true
 }
 

@@ -1,6 +1,5 @@
 -- The answer of a read, case by case.
-use Rattle.std.proofs.Common.{◌≡◌, ℕ, ◌+◌, ◌<◌, ◌≤◌, List, [], ◌∷◌, length, take, drop, Ok, Err, Result, sym, refl, ap, ◌∙◌, arith, rules}
-use Rattle.pairs.specs.declared.change.Change.{Change}
+use Rattle.std.proofs.Common.{◌≡◌, ℕ, ◌+◌, ◌<◌, ◌≤◌, List, length, take, drop, Ok, Err, Result, sym, ap, ◌∙◌, rules}
 use Rattle.std.proofs.lemmas.List.{places}
 use Rattle.std.proofs.lemmas.Bool.{cond-true, cond-false, eq-eqb, ne_eqb, lt-ltb, le-ltb}
 use Rattle.faults.specs.declared.cause.Cause.{Cause}
@@ -36,7 +35,3 @@ read_taken f n k m g h e l q =
 
 pub part_length : (f : List ℕ) (a n : ℕ) → a + n ≤ length f → length (take n (drop a f)) ≡ n
 part_length f a n h = search (rules, places)
-
-pub none_held : (cs : List Change) → length cs ≡ 0 → cs ≡ []
-none_held [] e = refl
-none_held (c ∷ cs) e = absurd (omega arith)

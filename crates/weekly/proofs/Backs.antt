@@ -84,7 +84,7 @@ pairs_good b low lower place (c ∷ cs) h e =
 -- ---- a note
 cond_fine : (t : Bool) (o : Option ℕ) (p : ℕ) → cond t o (Some p) ≡ None → (t ≡ true) × (o ≡ None)
 cond_fine true o p e = (refl, e)
-cond_fine false o p e = let z : ◌≡◌ {A = ℕ} 0 1 = cc in absurd (omega arith)
+cond_fine false o p e = cc
 
 pub none_bad : (p place : ℕ) (ns : List ℕ) → first_bad_byte p ns ≡ None → first_bad_byte place ns ≡ None
 unfolding first_bad_byte
@@ -114,7 +114,7 @@ then_of a b p q = ap (λ (z : Result Unit Cause). and_then z b) p ∙ q
 
 then_both : (a b : Result Unit Cause) → and_then a b ≡ Ok tt → (a ≡ Ok tt) × (b ≡ Ok tt)
 then_both (Ok u) b e = (refl, e)
-then_both (Err f) b e = let z : ◌≡◌ {A = ℕ} 0 1 = cc in absurd (omega arith)
+then_both (Err f) b e = cc
 
 both_cons : (k d low q p : ℕ) (rs xs : List ℕ) → pairs_fault low q xs ≡ Ok tt → pair_number k d < low → both_fault (p + 2) rs xs ≡ Ok tt → both_fault p (k ∷ d ∷ rs) xs ≡ Ok tt
 unfolding pairs_fault apart_fault both_fault

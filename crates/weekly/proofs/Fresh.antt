@@ -1,7 +1,7 @@
 -- A draft with room takes the changes of a file without a fault, one after the other, and they are a good batch.
-use Rattle.std.proofs.Common.{◌≡◌, ℕ, ◌+◌, ◌<◌, ◌≤◌, Bool, true, false, cond, ◌&&◌, ◌||◌, eqb, ltb, List, [], ◌∷◌, ◌++◌, length, Ok, sym, refl, ◌∙◌, arith}
+use Rattle.std.proofs.Common.{◌≡◌, ℕ, ◌+◌, ◌<◌, ◌≤◌, Bool, true, false, cond, ◌&&◌, eqb, ltb, List, [], ◌∷◌, ◌++◌, length, Ok, sym, refl, ◌∙◌, arith}
 use Rattle.std.proofs.lemmas.List.{length-append}
-use Rattle.std.proofs.lemmas.Bool.{cases_Bool, cond-true, cond-false, cond_both, lt-ltb, ltb-true}
+use Rattle.std.proofs.lemmas.Bool.{cond-true, cond-false, cond_both, lt-ltb, ltb-true, or_from, or_parts}
 use Rattle.std.proofs.lemmas.Bool.Decides.{nat_tests}
 use Rattle.pairs.specs.declared.change.Change.{Change}
 use Rattle.pairs.specs.Orders.{change_before, before_by_pair}
@@ -123,20 +123,13 @@ abbrev New : List Change → List Change → Type 0
 New [] cs = Unit {0}
 New (x ∷ xs) cs = (has before_by_pair x cs ≡ false) × New xs cs
 
-or_false : (a c : Bool) → a ≡ false → c ≡ false → (a || c) ≡ false
-or_false a c p q = grind arith
-
-or_parts : (a c : Bool) → (a || c) ≡ false → (a ≡ false) × (c ≡ false)
-or_parts true c h = absurd (let q = cases_Bool true in grind arith)
-or_parts false c h = (refl, h)
-
 lacks_entered : (y x : Change) (cs : List Change) → tied before_by_pair y x ≡ false → has before_by_pair y cs ≡ false → has before_by_pair y (entered change_before x cs) ≡ false
-lacks_entered y x [] t h = or_false _ _ t refl
+lacks_entered y x [] t h = or_from _ _ t refl
 lacks_entered y x (c ∷ cs) t h =
     let p = or_parts (tied before_by_pair y c) (has before_by_pair y cs) h in
     cond_both (change_before x c) (x ∷ (c ∷ cs)) (cond (change_before c x) (c ∷ entered change_before x cs) (c ∷ cs)) (λ v. has before_by_pair y v ≡ false)
-    (λ e. or_false _ _ t h)
-    (λ e. cond_both (change_before c x) (c ∷ entered change_before x cs) (c ∷ cs) (λ v. has before_by_pair y v ≡ false) (λ f. or_false _ _ p.0 (lacks_entered y x cs t p.1)) (λ f. h))
+    (λ e. or_from _ _ t h)
+    (λ e. cond_both (change_before c x) (c ∷ entered change_before x cs) (c ∷ cs) (λ v. has before_by_pair y v ≡ false) (λ f. or_from _ _ p.0 (lacks_entered y x cs t p.1)) (λ f. h))
 
 new_entered : (x : Change) (xs cs : List Change) → Apart x xs → New xs cs → New xs (entered change_before x cs)
 new_entered x [] cs a n = tt

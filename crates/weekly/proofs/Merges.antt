@@ -95,8 +95,8 @@ up_only b (c ∷ cs) u = cond_both (same b c.added) (c ∷ only b cs) (only b cs
 -- all changes of a body have its mark
 mark_of : (b : Bool) (x : Change) (bs : List ℕ) → has change_before x (marked b bs) ≡ true → x.added ≡ b
 unfolding marked
-mark_of b x [] h = absurd (let q = cases_Bool false in grind arith)
-mark_of b x (k ∷ []) h = absurd (let q = cases_Bool false in grind arith)
+mark_of b x [] h = cc
+mark_of b x (k ∷ []) h = cc
 mark_of b x (k ∷ d ∷ rest) h = ⊎_elim
     (λ (t : tied change_before x (record { key = k; door = d; added = b }) ≡ true). ap (λ (v : Change). v.added) (tied_mark x (record { key = k; door = d; added = b }) t))
     (λ (f : tied change_before x (record { key = k; door = d; added = b }) ≡ false). mark_of b x rest (sym (ap (λ (v : Bool). v || has change_before x (marked b rest)) f) ∙ h))
@@ -117,16 +117,16 @@ up_change (c ∷ cs) u = (below_change c cs u.0, up_change cs u.1)
 -- ---- the changes of one mark among those of two bodies
 pick_added : (m a r : Bool) → (a ≡ true → m ≡ true) → (r ≡ true → m ≡ false) → (m && (a || r)) ≡ a
 pick_added true true r f g = refl
-pick_added true false true f g = absurd (let e = g refl in let q = cases_Bool true in grind arith)
+pick_added true false true f g = cc (g refl)
 pick_added true false false f g = refl
-pick_added false true r f g = absurd (let e = f refl in let q = cases_Bool true in grind arith)
+pick_added false true r f g = cc (f refl)
 pick_added false false r f g = refl
 
 pick_removed : (m a r : Bool) → (a ≡ true → m ≡ true) → (r ≡ true → m ≡ false) → (not m && (a || r)) ≡ r
-pick_removed true true true f g = absurd (let e = g refl in let q = cases_Bool true in grind arith)
-pick_removed true false true f g = absurd (let e = g refl in let q = cases_Bool true in grind arith)
+pick_removed true true true f g = cc (g refl)
+pick_removed true false true f g = cc (g refl)
 pick_removed true a false f g = refl
-pick_removed false true r f g = absurd (let e = f refl in let q = cases_Bool true in grind arith)
+pick_removed false true r f g = cc (f refl)
 pick_removed false false r f g = refl
 
 module _ (adds takes : List ℕ) where

@@ -1,7 +1,6 @@
 -- One piece written after another.
-use Rattle.std.proofs.Common.{◌≡◌, ℕ, ◌+◌, ◌-◌, ◌≤◌, List, [], ◌++◌, length, take, drop, sym, ap, ◌∙◌, add-zero, arith, rules}
-use borrow.Rule.Slice.PartMut.{put_mid}
-use Rattle.std.proofs.lemmas.List.{places, same_lists, take-append-drop, length-append, drop-drop}
+use Rattle.std.proofs.Common.{◌≡◌, ℕ, ◌+◌, ◌≤◌, List, [], ◌++◌, length, take, drop, sym, ap, ◌∙◌, add-zero, arith, rules}
+use Rattle.std.proofs.lemmas.List.{places, same_lists, take-append-drop, length-append}
 use Rattle.weekly.specs.File.{pasted, Wrote}
 
 pub wrote_none : (at : ℕ) (xs : List ℕ) → Wrote at [] xs xs at
@@ -24,12 +23,6 @@ wrote_more at us bs xs ys zs m n h v w = record {
   after = omega (arith, v.after, w.after, length-append us bs);
 }
 
--- after a copy into a part of the output
-pub mid_pasted : (at : ℕ) (bs xs ys : List ℕ) → at + length bs ≤ length xs → ys ≡ bs → put_mid at (at + length bs - at) xs ys ≡ pasted at bs xs
-mid_pasted at bs xs ys h e =
-    let k : at + length bs - at ≡ length bs = omega arith in
-    ap (λ (z : List ℕ). put_mid at (at + length bs - at) xs z) e ∙ (ap (λ (z : ℕ). put_mid at z xs bs) k ∙ ap (λ (z : List ℕ). take at xs ++ (bs ++ z)) (drop-drop (length bs) at xs))
-
 -- three pieces, and five
 pub wrote_three : (at : ℕ) (p q r x0 x1 x2 x3 : List ℕ) (m1 m2 m3 : ℕ) → at + length p + length q + length r ≤ length x0
     → Wrote at p x0 x1 m1 → Wrote m1 q x1 x2 m2 → Wrote m2 r x2 x3 m3 → Wrote at (p ++ (q ++ r)) x0 x3 m3
@@ -38,10 +31,10 @@ wrote_three at p q r x0 x1 x2 x3 m1 m2 m3 h a b c =
     wrote_more at p (q ++ r) x0 x1 x3 m1 m3 (omega (arith, length-append q r)) a
     (wrote_more m1 q r x1 x2 x3 m2 m3 (omega (arith, l, a.after)) b c)
 
-pub wrote_five : (p q r s t x0 x1 x2 x3 x4 x5 : List ℕ) (m1 m2 m3 m4 m5 : ℕ) → length p + length q + length r + length s + length t ≤ length x0
-    → Wrote 0 p x0 x1 m1 → Wrote m1 q x1 x2 m2 → Wrote m2 r x2 x3 m3 → Wrote m3 s x3 x4 m4 → Wrote m4 t x4 x5 m5 → Wrote 0 (p ++ (q ++ (r ++ (s ++ t)))) x0 x5 m5
-wrote_five p q r s t x0 x1 x2 x3 x4 x5 m1 m2 m3 m4 m5 h a b c d e =
-    let l1 = wrote_length 0 p x0 x1 m1 (omega arith) a in
+pub wrote_five : (at : ℕ) (p q r s t x0 x1 x2 x3 x4 x5 : List ℕ) (m1 m2 m3 m4 m5 : ℕ) → at + length p + length q + length r + length s + length t ≤ length x0
+    → Wrote at p x0 x1 m1 → Wrote m1 q x1 x2 m2 → Wrote m2 r x2 x3 m3 → Wrote m3 s x3 x4 m4 → Wrote m4 t x4 x5 m5 → Wrote at (p ++ (q ++ (r ++ (s ++ t)))) x0 x5 m5
+wrote_five at p q r s t x0 x1 x2 x3 x4 x5 m1 m2 m3 m4 m5 h a b c d e =
+    let l1 = wrote_length at p x0 x1 m1 (omega arith) a in
     let l2 = wrote_length m1 q x1 x2 m2 (omega (arith, l1, a.after)) b in
-    wrote_three 0 p q (r ++ (s ++ t)) x0 x1 x2 x5 m1 m2 m5 (omega (arith, length-append r (s ++ t), length-append s t)) a b
+    wrote_three at p q (r ++ (s ++ t)) x0 x1 x2 x5 m1 m2 m5 (omega (arith, length-append r (s ++ t), length-append s t)) a b
     (wrote_three m2 r s t x2 x3 x4 x5 m3 m4 m5 (omega (arith, l1, l2, a.after, b.after)) c d e)

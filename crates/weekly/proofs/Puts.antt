@@ -1,5 +1,5 @@
 -- Several changes put into a draft: what it holds then, and its memory.
-use Rattle.std.proofs.Common.{◌≡◌, ℕ, ◌+◌, ◌-◌, ◌≤◌, min, Bool, true, false, cond, List, [], ◌∷◌, ◌++◌, length, take, drop, is_ok, Ok, Err, Result, sym, refl, ap, ◌∙◌, subst, arith, rules}
+use Rattle.std.proofs.Common.{◌≡◌, ℕ, ◌+◌, ◌-◌, ◌≤◌, min, Bool, true, false, cond, List, [], ◌∷◌, ◌++◌, length, map, drop, is_ok, Ok, Err, Result, sym, refl, ap, ◌∙◌, subst, arith, rules}
 use Rattle.std.proofs.lemmas.List.{places, drop_at, drop-drop}
 use Rattle.std.proofs.lemmas.Bool.{cond-true, cond_both}
 use Rattle.faults.specs.declared.cause.Cause.{Cause}
@@ -9,12 +9,13 @@ use Rattle.pairs.specs.Orders.{change_before}
 use Rattle.table.specs.Sets.{entered, all_entered}
 use Rattle.batch.specs.Changes.{capacity_of, filled, put_answer}
 use Rattle.weekly.specs.Marks.{marked, merged, TakenAll}
-use Rattle.weekly.proofs.Marked.{first_of, marked_more}
+use Rattle.weekly.specs.Pairs.{pairs_of}
+use Rattle.pairs.specs.declared.pair.Pair.{Pair}
 use Rattle.weekly.proofs.Fresh.{entered_few, taken_few}
 
 pub told_ok : {E : Type 0} (cause : E → Cause) (r : Result Unit E) → told cause r ≡ Ok tt → is_ok r ≡ true
 told_ok cause (Ok u) e = refl
-told_ok cause (Err x) e = absurd (let z : ◌≡◌ {A = ℕ} 0 1 = cc in omega arith)
+told_ok cause (Err x) e = cc
 
 entered_grows : (x : Change) (cs : List Change) → length cs ≤ length (entered change_before x cs)
 entered_grows x [] = omega arith
@@ -54,39 +55,36 @@ filled_capacity cs xs ys e h =
     let l : length ys ≡ length xs = ap length e ∙ search (rules, places) in
     ap (λ (n : ℕ). min n 64) l
 
--- ---- a body's first pair put into a draft
-module _ (b : Bool) (bs : List ℕ) (two : 2 ≤ length bs) where
-  abbrev rest : List ℕ
-  rest = take (length bs - 2) (drop 2 bs)
+-- ---- the pairs of a body as changes of a mark
+abbrev pub change_of : Bool → Pair → Change
+change_of b p = record { key = p.key; door = p.door; added = b }
 
-  pub taken_first : (cs : List Change) (capacity : ℕ) → TakenAll (marked b bs) cs capacity → (put_answer cs capacity (first_of b bs) ≡ Ok tt) × TakenAll (marked b rest) (entered change_before (first_of b bs) cs) capacity
-  taken_first cs capacity t = subst (λ (z : List Change). TakenAll z cs capacity) (marked_more b bs two) t
+pub marked_pairs : (b : Bool) (bs : List ℕ) → marked b bs ≡ map (change_of b) (pairs_of bs)
+unfolding marked pairs_of
+marked_pairs b [] = refl
+marked_pairs b (k ∷ []) = refl
+marked_pairs b (k ∷ d ∷ rest) = ap (λ (z : List Change). record { key = k; door = d; added = b } ∷ z) (marked_pairs b rest)
 
-  pub all_first : (cs : List Change) → all_entered change_before (marked b bs) cs ≡ all_entered change_before (marked b rest) (entered change_before (first_of b bs) cs)
-  all_first cs = ap (λ (z : List Change). all_entered change_before z cs) (marked_more b bs two)
-
--- the draft after the put, by what the put promised: xs and cs before, ys and ds after
-module _ {E : Type 0} (cause : E → Cause) (b : Bool) (bs : List ℕ) (two : 2 ≤ length bs) (xs ys cs ds : List Change) (r : Result Unit E)
-    (fits : TakenAll (marked b bs) cs (capacity_of xs)) (answer : told cause r ≡ put_answer cs (capacity_of xs) (first_of b bs))
-    (after : ds ≡ cond (is_ok r) (entered change_before (first_of b bs) cs) cs) (memory : ys ≡ filled ds xs) where
-  pub put_changes : ds ≡ entered change_before (first_of b bs) cs
-  put_changes = after ∙ cond-true _ _ _ (told_ok cause r (answer ∙ (taken_first b bs two cs (capacity_of xs) fits).0))
+-- the draft after a put, by what the put promised: xs and cs before, ys and ds after
+module _ {E : Type 0} (cause : E → Cause) (x : Change) (left xs ys cs ds : List Change) (r : Result Unit E)
+    (fits : TakenAll (x ∷ left) cs (capacity_of xs)) (answer : told cause r ≡ put_answer cs (capacity_of xs) x)
+    (after : ds ≡ cond (is_ok r) (entered change_before x cs) cs) (memory : ys ≡ filled ds xs) where
+  pub put_changes : ds ≡ entered change_before x cs
+  put_changes = after ∙ cond-true _ _ _ (told_ok cause r (answer ∙ fits.0))
 
   put_few : length ds ≤ capacity_of xs
-  put_few = subst (λ (z : List Change). length z ≤ capacity_of xs) (sym put_changes) (entered_few (first_of b bs) cs (capacity_of xs) (taken_first b bs two cs (capacity_of xs) fits).0)
+  put_few = subst (λ (z : List Change). length z ≤ capacity_of xs) (sym put_changes) (entered_few x cs (capacity_of xs) fits.0)
 
-  pub put_fits : TakenAll (marked b (rest b bs two)) ds (capacity_of ys)
+  pub put_fits : TakenAll left ds (capacity_of ys)
   put_fits =
-      subst (λ (n : ℕ). TakenAll (marked b (rest b bs two)) ds n) (sym (filled_capacity ds xs ys memory put_few))
-      (subst (λ (z : List Change). TakenAll (marked b (rest b bs two)) z (capacity_of xs)) (sym put_changes) (taken_first b bs two cs (capacity_of xs) fits).1)
+      subst (λ (n : ℕ). TakenAll left ds n) (sym (filled_capacity ds xs ys memory put_few))
+      (subst (λ (z : List Change). TakenAll left z (capacity_of xs)) (sym put_changes) fits.1)
 
-  -- and after the rest is in
-  pub put_all_changes : (es : List Change) → es ≡ all_entered change_before (marked b (rest b bs two)) ds → es ≡ all_entered change_before (marked b bs) cs
-  put_all_changes es e = e ∙ (ap (λ (z : List Change). all_entered change_before (marked b (rest b bs two)) z) put_changes ∙ sym (all_first b bs two cs))
+  pub put_left : all_entered change_before (x ∷ left) cs ≡ all_entered change_before left ds
+  put_left = ap (all_entered change_before left) (sym put_changes)
 
-  pub put_all_memory : (es zs : List Change) → es ≡ all_entered change_before (marked b (rest b bs two)) ds → zs ≡ filled es ys → zs ≡ filled es xs
-  put_all_memory es zs e m =
-      m ∙ (ap (filled es) memory ∙ filled_twice ds es xs (subst (λ (z : List Change). length ds ≤ length z) (sym e) (all_grow (marked b (rest b bs two)) ds)))
+  pub put_memory : (zs : List Change) → xs ≡ filled cs zs → ys ≡ filled ds zs
+  put_memory zs e = memory ∙ (ap (filled ds) e ∙ filled_twice cs ds zs (subst (λ (z : List Change). length cs ≤ length z) (sym put_changes) (entered_grows x cs)))
 
 -- ---- two bodies put into an empty draft
 module _ (adds takes : List ℕ) (xs ys cs ds : List Change) (none : cs ≡ []) (fits : TakenAll (marked true adds ++ marked false takes) [] (capacity_of xs))

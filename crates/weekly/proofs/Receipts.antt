@@ -49,10 +49,10 @@ write_own f r room own =
 
 short_only : (b : Bool) (x : Cause) (n : ℕ) (r : Reading) → unwritten x ≡ cond b (unwritten (bare 28)) (written n) → refused x ≡ cond b (refused (bare 28)) (taken r)
 short_only true x n r e = let q : x ≡ bare 28 = cc in ap refused q
-short_only false x n r e = absurd (let z : ◌≡◌ {A = ℕ} 0 1 = cc in omega arith)
+short_only false x n r e = cc
 
 long_enough : (b : Bool) (m n : ℕ) (r : Reading) → written m ≡ cond b (unwritten (bare 28)) (written n) → taken r ≡ cond b (refused (bare 28)) (taken r)
-long_enough true m n r e = absurd (let z : ◌≡◌ {A = ℕ} 0 1 = cc in omega arith)
+long_enough true m n r e = cc
 long_enough false m n r e = refl
 
 module _ (f : List ℕ) (room : ℕ) (r : Reading) (bytes : Bytes f) (read : taken r ≡ read_answer f 0 64) (cs : List Change) (note : List ℕ) (batch : cs ≡ file_changes f) (text : note ≡ file_note f) where

@@ -17,11 +17,11 @@ use Rattle.weekly.proofs.Shapes.{entries_of, Past, entries_shape, cond_good}
 
 cond_else : (t : Bool) (r : Result Layout Cause) (f : Cause) (g : Layout) → cond t (Err f) r ≡ Ok g → (t ≡ false) × (r ≡ Ok g)
 cond_else false r f g e = (refl, e)
-cond_else true r f g e = let z : ◌≡◌ {A = ℕ} 0 1 = cc in absurd (omega arith)
+cond_else true r f g e = cc
 
 ended_good : (n : ℕ) (r : Result Layout Cause) (g : Layout) → ended n r ≡ Ok g → (r ≡ Ok g) × (n ≡ bodies_end g)
 unfolding ended
-ended_good n (Err x) g e = let z : ◌≡◌ {A = ℕ} 0 1 = cc in absurd (omega arith)
+ended_good n (Err x) g e = cc
 ended_good n (Ok h) g e =
     let c = cond_good (eqb n (bodies_end h)) (Ok h) (along 23 n) g e in
     let q : h ≡ g = cc in

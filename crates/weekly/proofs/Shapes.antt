@@ -115,7 +115,7 @@ held_first g letter len = grind (arith, nat_tests)
 
 pub cond_good : (t : Bool) (r : Result Layout Cause) (f : Cause) (g : Layout) → cond t r (Err f) ≡ Ok g → (t ≡ true) × (r ≡ Ok g)
 cond_good true r f g e = (refl, e)
-cond_good false r f g e = let z : ◌≡◌ {A = ℕ} 0 1 = cc in absurd (omega arith)
+cond_good false r f g e = cc
 
 -- what the entries add to a layout is what they are
 pub entries_shape : (k : ℕ) (bs : List ℕ) (place prev : ℕ) (got g : Layout) → 5 * k ≤ length bs → Bytes bs → Past prev got → entries k bs place prev got ≡ Ok g

@@ -42,11 +42,11 @@ what_is_written_is_read cs ns b n =
 
 -- ---- what is read is written
 count_ok : (t : Bool) (k : ℕ) (g : Layout) (r : Reading) → cond t (Err (along 11 k)) (Ok (reading_of g)) ≡ Ok r → r.count ≡ change_count g
-count_ok true k g r e = absurd (let z : ◌≡◌ {A = ℕ} 0 1 = cc in omega arith)
+count_ok true k g r e = cc
 count_ok false k g r e = let q : reading_of g ≡ r = cc in ap (λ (v : Reading). v.count) (sym q)
 
 room_ok : (k : ℕ) (x : Result Layout Cause) (r : Reading) → with_room k x ≡ Ok r → (g : Layout) × (x ≡ Ok g) × (r.count ≡ change_count g)
-room_ok k (Err e) r q = absurd (let z : ◌≡◌ {A = ℕ} 0 1 = cc in omega arith)
+room_ok k (Err e) r q = cc
 room_ok k (Ok g) r q = (g, refl, count_ok (ltb k (change_count g)) k g r q)
 
 ranged_at : (cs : List Change) → Ranged cs → (k : ℕ) (d : Change) → k < length cs → in_range (get_or cs k d) ≡ true
@@ -56,7 +56,7 @@ ranged_at (c ∷ cs) r (suc k) d h = ranged_at cs r.1 k d (omega arith)
 
 no_fault : (number : ℕ) (o : Option ℕ) → byte_fault number o ≡ Ok tt → o ≡ None
 no_fault number None e = refl
-no_fault number (Some p) e = absurd (let z : ◌≡◌ {A = ℕ} 0 1 = cc in omega arith)
+no_fault number (Some p) e = cc
 
 module _ (f : List ℕ) (g : Layout) (bytes : Bytes f) (is : judged f ≡ Ok g) where
   sized : Sized (length f) g

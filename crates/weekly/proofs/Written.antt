@@ -1,5 +1,5 @@
 -- The length of a file, and the answer of a write, case by case.
-use Rattle.std.proofs.Common.{◌≡◌, ℕ, ◌+◌, ◌*◌, ◌<◌, ◌≤◌, true, false, cond, eqb, ltb, List, [], ◌++◌, length, drop, Some, None, Ok, Err, Option, Result, sym, ap, ◌∙◌, subst, ⊎_elim, zero-add, arith}
+use Rattle.std.proofs.Common.{◌≡◌, ℕ, ◌+◌, ◌*◌, ◌<◌, ◌≤◌, true, false, cond, eqb, ltb, List, [], ◌++◌, length, Some, None, Ok, Err, Option, Result, sym, ap, ◌∙◌, subst, ⊎_elim, arith}
 use Rattle.std.proofs.lemmas.List.{length-append}
 use Rattle.std.proofs.lemmas.Bool.{cases_Bool, cond-true, cond-false, lt-ltb, le-ltb}
 use Rattle.pairs.specs.declared.change.Change.{Change}
@@ -9,7 +9,7 @@ use Rattle.weekly.specs.declared.layout.Layout.{Layout}
 use Rattle.weekly.specs.Head.{bodies_end}
 use Rattle.weekly.specs.Body.{and_then, first_bad_byte, byte_fault}
 use Rattle.weekly.specs.Marks.{bytes_of}
-use Rattle.weekly.specs.File.{entry_of, present, entry_count, plan_of, added_entry, note_entry, removed_entry, head_of, file_with, file_of, write_answer, over, Wrote}
+use Rattle.weekly.specs.File.{entry_of, present, entry_count, plan_of, added_entry, note_entry, removed_entry, head_of, file_with, file_of, write_answer, Wrote}
 use Rattle.weekly.proofs.Pastes.{wrote_more, wrote_length}
 
 pub entry_length : (letter start len : ℕ) → length (entry_of letter start len) ≡ 5 * present len
@@ -40,12 +40,12 @@ file_length xs ns rs =
     let g = plan_of (length xs) (length ns) (length rs) in
     omega (arith, length-append (head_of g) (xs ++ (ns ++ rs)), length-append xs (ns ++ rs), length-append ns rs, head_length g)
 
-pub file_wrote : (xs ns rs x0 x1 x2 : List ℕ) (m n : ℕ) → bodies_end (plan_of (length xs) (length ns) (length rs)) ≤ length x0
-    → Wrote 0 (head_of (plan_of (length xs) (length ns) (length rs))) x0 x1 m → Wrote m (xs ++ (ns ++ rs)) x1 x2 n → Wrote 0 (file_with xs ns rs) x0 x2 n
+pub file_wrote : (at : ℕ) (xs ns rs x0 x1 x2 : List ℕ) (m n : ℕ) → at + bodies_end (plan_of (length xs) (length ns) (length rs)) ≤ length x0
+    → Wrote at (head_of (plan_of (length xs) (length ns) (length rs))) x0 x1 m → Wrote m (xs ++ (ns ++ rs)) x1 x2 n → Wrote at (file_with xs ns rs) x0 x2 n
 unfolding file_with
-file_wrote xs ns rs x0 x1 x2 m n h a b =
+file_wrote at xs ns rs x0 x1 x2 m n h a b =
     let g = plan_of (length xs) (length ns) (length rs) in
-    wrote_more 0 (head_of g) (xs ++ (ns ++ rs)) x0 x1 x2 m n (omega (arith, h, length-append xs (ns ++ rs), length-append ns rs, head_length g)) a b
+    wrote_more at (head_of g) (xs ++ (ns ++ rs)) x0 x1 x2 m n (omega (arith, h, length-append xs (ns ++ rs), length-append ns rs, head_length g)) a b
 
 -- ---- the answer
 pub write_long : (cs : List Change) (note : List ℕ) (room : ℕ) → 200 < length note → write_answer cs note room ≡ Err (along 27 200)
@@ -71,32 +71,25 @@ pub write_done : (cs : List Change) (note : List ℕ) (room n : ℕ) → length 
 write_done cs note room n h e l q =
     write_noted cs note room None h e ∙ (cond-false _ _ _ (le-ltb room (length (file_of cs note)) (omega (arith, l, q))) ∙ ap (λ (z : ℕ). fine z) q)
 
--- written from the start on
-pub over_from : (cs : List Change) (note x0 x1 : List ℕ) (m : ℕ) → Wrote 0 (file_of cs note) x0 x1 m → x1 ≡ over (file_of cs note) x0
-over_from cs note x0 x1 m w = w.out ∙ ap (λ (z : ℕ). file_of cs note ++ drop z x0) (zero-add (length (file_of cs note)))
-
 -- ---- over a layout that is the plan
-plan_room : (xs ns rs x0 x1 : List ℕ) (m : ℕ) → bodies_end (plan_of (length xs) (length ns) (length rs)) ≤ length x0
-    → Wrote 0 (head_of (plan_of (length xs) (length ns) (length rs))) x0 x1 m → m + length xs + length ns + length rs ≤ length x1
-plan_room xs ns rs x0 x1 m h w =
+plan_room : (at : ℕ) (xs ns rs x0 x1 : List ℕ) (m : ℕ) → at + bodies_end (plan_of (length xs) (length ns) (length rs)) ≤ length x0
+    → Wrote at (head_of (plan_of (length xs) (length ns) (length rs))) x0 x1 m → m + length xs + length ns + length rs ≤ length x1
+plan_room at xs ns rs x0 x1 m h w =
     let g = plan_of (length xs) (length ns) (length rs) in
-    omega (arith, h, w.after, head_length g, wrote_length 0 (head_of g) x0 x1 m (omega (arith, h, head_length g)) w)
+    omega (arith, h, w.after, head_length g, wrote_length at (head_of g) x0 x1 m (omega (arith, h, head_length g)) w)
 
-module _ (xs ns rs x0 x1 : List ℕ) (m : ℕ) (g : Layout) (is : g ≡ plan_of (length xs) (length ns) (length rs)) (room : bodies_end g ≤ length x0) (head : Wrote 0 (head_of g) x0 x1 m) where
-  room' : bodies_end (plan_of (length xs) (length ns) (length rs)) ≤ length x0
-  room' = subst (λ (v : Layout). bodies_end v ≤ length x0) is room
+module _ (at : ℕ) (xs ns rs x0 x1 : List ℕ) (m : ℕ) (g : Layout) (is : g ≡ plan_of (length xs) (length ns) (length rs)) (room : at + bodies_end g ≤ length x0) (head : Wrote at (head_of g) x0 x1 m) where
+  room' : at + bodies_end (plan_of (length xs) (length ns) (length rs)) ≤ length x0
+  room' = subst (λ (v : Layout). at + bodies_end v ≤ length x0) is room
 
-  head' : Wrote 0 (head_of (plan_of (length xs) (length ns) (length rs))) x0 x1 m
-  head' = subst (λ (v : Layout). Wrote 0 (head_of v) x0 x1 m) is head
+  head' : Wrote at (head_of (plan_of (length xs) (length ns) (length rs))) x0 x1 m
+  head' = subst (λ (v : Layout). Wrote at (head_of v) x0 x1 m) is head
 
   pub bodies_room : m + length xs + length ns + length rs ≤ length x1
-  bodies_room = plan_room xs ns rs x0 x1 m room' head'
+  bodies_room = plan_room at xs ns rs x0 x1 m room' head'
 
-  pub bodies_wrote : (x2 : List ℕ) (n : ℕ) → Wrote m (xs ++ (ns ++ rs)) x1 x2 n → Wrote 0 (file_with xs ns rs) x0 x2 (bodies_end g)
-  bodies_wrote x2 n w = record {
-    out = (file_wrote xs ns rs x0 x1 x2 m n room' head' w).out;
-    after = sym (zero-add (length (file_with xs ns rs)) ∙ (file_length xs ns rs ∙ ap (λ (v : Layout). bodies_end v) (sym is)));
-  }
+  pub bodies_wrote : (x2 : List ℕ) (n : ℕ) → Wrote m (xs ++ (ns ++ rs)) x1 x2 n → Wrote at (file_with xs ns rs) x0 x2 n
+  bodies_wrote x2 n w = file_wrote at xs ns rs x0 x1 x2 m n room' head' w
 
 pub file_end : (cs rows : List Change) (note : List ℕ) (g : Layout) (a r : ℕ) → rows ≡ cs → a ≡ length (bytes_of true rows) → r ≡ length (bytes_of false rows) → g ≡ plan_of a (length note) r
     → length (file_of cs note) ≡ bodies_end g

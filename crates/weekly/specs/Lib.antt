@@ -1,5 +1,9 @@
 pub mod Head
+pub mod Kinds
+pub mod Entries
 pub mod Body
+pub mod Pairs
+pub mod Parts
 pub mod Read
 pub mod Marks
 pub mod File

@@ -6,23 +6,19 @@ ghost use Rattle.batch.specs.Changes.{capacity_of, filled};
 ghost use Rattle.batch.specs.Drafts.{changes, memory_of};
 ghost use Rattle.weekly.specs.Marks.{marked, TakenAll};
 
+use crate::body::Pairs;
 use batch::lent::Draft;
 use pairs::change::Change;
+use pairs::pair::Pair;
 
 // Puts the changes of a body into a draft that takes them all.
-pub(crate) fn put_all(draft: &mut Draft, body: &[u8], mark: bool)
-    requires { TakenAll (marked mark body.now) (changes draft.old) (capacity_of (memory_of draft.old)) }
-    ensures changes { changes draft.new ≡ all_entered change_before (marked mark body.now) (changes draft.old) }
+pub(crate) fn put_all(draft: &mut Draft, body: &[u8], added: bool)
+    requires { TakenAll (marked added body.now) (changes draft.old) (capacity_of (memory_of draft.old)) }
+    ensures changes { changes draft.new ≡ all_entered change_before (marked added body.now) (changes draft.old) }
     ensures memory { memory_of draft.new ≡ filled (changes draft.new) (memory_of draft.old) }
-    ensures same { draft.new.memory.ghost_name ≡ draft.old.memory.ghost_name }
+    ensures same { draft.new.rows.memory.ghost_name ≡ draft.old.rows.memory.ghost_name }
 {
-    let [key, door, rest @ ..] = body else {
-        return;
-    };
-    let _ = draft.put(Change {
-        key: *key,
-        door: *door,
-        added: mark,
-    });
-    put_all(draft, rest, mark);
+    for Pair { key, door } in Pairs(body) {
+        let _ = draft.put(Change { key, door, added });
+    }
 }

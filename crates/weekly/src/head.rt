@@ -1,9 +1,13 @@
 // The opening and the contents.
-ghost use Rattle.std.specs.Prelude.{◌≡◌, ◌+◌, ◌*◌, ◌<◌, ◌≤◌, length, IfOk};
+ghost use Rattle.std.specs.Prelude.{◌≡◌, ◌+◌, ◌*◌, ◌<◌, ◌≤◌, length, IfOk, if◌then◌else◌, None};
+ghost use Rattle.std.specs.Iterator.{YieldsFirst, item_count};
 ghost use Rattle.faults.specs.Causes.{told};
 ghost use Rattle.faults.specs.Faults.{file_cause};
-ghost use Rattle.weekly.specs.Head.{opened, two_bytes, is_entry_ok, with_a_body, entries, layout_of, bodies_end, Short, Sized};
+ghost use Rattle.weekly.specs.Entries.{entries_of};
+ghost use Rattle.weekly.specs.Kinds.{letter_of, last_letter, kind_of};
+ghost use Rattle.weekly.specs.Head.{opened, length_ok, is_entry_ok, entries, bodies_start, layout_of, bodies_end, Short, Sized};
 
+use crate::kind::Kind;
 use crate::layout::Layout;
 use faults::weekly::FileFault;
 
@@ -14,90 +18,93 @@ fn opens(file: &[u8]) -> bool
     file.len() >= 5 && &file[0..4] == b"WKL1".as_slice()
 }
 
-// A number in two bytes, low byte first.
-fn number(low: u8, high: u8) -> usize
-    ensures { result ≡ two_bytes low high }
-{
-    low as usize + 256 * high as usize
+// An entry of the contents: its letter, and where its body starts and how long it is.
+#[derive(Clone, Copy)]
+pub(crate) struct Entry {
+    pub(crate) letter: u8,
+    pub(crate) start: u16,
+    pub(crate) len: u16,
 }
 
-// An entry's letter is above the last one, its body starts where the last one ends, and its length is right: of a note 1 to 200,
-// of additions and of removals even and at least 2, and together at most 128.
-fn entry_ok(prev: u8, start: usize, used: usize, letter: u8, at: usize, len: usize) -> bool
+// The entries of the contents that are left. Not one iterator with the pairs of a body: each takes its bytes apart by a slice
+// pattern that names them.
+#[derive(Drop)]
+pub(crate) struct Entries<'a>(pub(crate) &'a [u8]);
+
+impl<'a> Iterator for Entries<'a> {
+    type Item = Entry;
+
+    ghost next_gives = { YieldsFirst (λ s. entries_of s.0.now) };
+
+    ghost remaining = { item_count (λ s. entries_of s.0.now) };
+
+    #[tactic(auto, using(crate::proofs::Heads::read_none, crate::proofs::Heads::read_more))]
+    fn next(&mut self) -> Option<Entry> {
+        let [letter, start_low, start_high, len_low, len_high, rest @ ..] = self.0 else {
+            return None;
+        };
+        self.0 = rest;
+        Some(Entry {
+            letter: *letter,
+            start: u16::from_le_bytes([*start_low, *start_high]),
+            len: u16::from_le_bytes([*len_low, *len_high]),
+        })
+    }
+}
+
+// The length of a body is right: of a note 1 to 200, of additions and of removals even and at least 2, and together at most 128.
+fn length_ok(kind: Kind, used: usize, len: usize) -> bool
     requires { (used ≤ 1000) × (len < 65536) }
-    ensures { result ≡ is_entry_ok prev start used letter at len }
+    ensures { result ≡ length_ok used (letter_of kind) len }
 {
-    if letter <= prev || at != start {
-        return false;
-    }
-    match letter {
-        b'N' => 1 <= len && len <= 200,
-        b'A' | b'R' => len % 2 == 0 && 2 <= len && used + len <= 128,
-        _ => false,
+    match kind {
+        Kind::Note => 1 <= len && len <= 200,
+        Kind::Added | Kind::Removed => len % 2 == 0 && 2 <= len && used + len <= 128,
     }
 }
 
-// The layout with the body of one more entry.
-fn with_body(layout: Layout, letter: u8, len: usize) -> Layout
-    requires { (bodies_end layout ≤ 1000) × (len ≤ 200) }
-    ensures { result ≡ with_a_body layout letter len }
+// The kind of an entry, if it is right: its letter is above the last one, its body starts where the last one ends, and its
+// length is right.
+#[tactic(auto, using(crate::proofs::Heads::letter_is))]
+fn right_kind(last: Option<Kind>, layout: Layout, entry: Entry) -> Option<Kind>
+    requires { bodies_end layout ≤ 1000 }
+    ensures { result ≡ (if is_entry_ok (last_letter last) (bodies_end layout) layout.added entry.letter entry.start entry.len then kind_of entry.letter else None) }
 {
-    match letter {
-        b'A' => Layout {
-            added: layout.added + len,
-            ..layout
-        },
-        b'N' => Layout {
-            note: layout.note + len,
-            ..layout
-        },
-        _ => Layout {
-            removed: layout.removed + len,
-            ..layout
-        },
+    let kind = Kind::from_letter(entry.letter)?;
+    let start = usize::from(entry.start);
+    let len = usize::from(entry.len);
+    if last < Some(kind) && start == layout.end() && length_ok(kind, layout.added, len) {
+        Some(kind)
+    } else {
+        None
     }
 }
 
-// The entries that are left, the first of them at `place`: the first wrong one is refused.
-fn contents(
-    bytes: &[u8],
-    left: usize,
-    place: usize,
-    prev: u8,
-    layout: Layout,
-) -> Result<Layout, FileFault>
-    requires within { (left ≤ 3) × ((5 * left ≤ length bytes.now) × ((place + 5 * left ≤ 100) × (bodies_end layout + 200 * left ≤ 900))) }
-    requires short { Short layout }
-    ensures is { told file_cause result ≡ entries left bytes.now place prev layout }
+// The layout that n entries give: the first wrong one is refused.
+fn contents(bytes: &[u8], n: usize) -> Result<Layout, FileFault>
+    requires { (n ≤ 3) × (length bytes.now ≡ 5 * n) }
+    ensures is { told file_cause result ≡ entries n bytes.now 5 0 (bodies_start n) }
     ensures short { IfOk result Short }
 {
-    if left == 0 {
-        return Ok(layout);
-    }
-    let [letter, start_low, start_high, len_low, len_high, rest @ ..] = bytes else {
-        return Err(FileFault::Contents { place });
+    let mut layout = Layout {
+        first: 5 + 5 * n,
+        added: 0,
+        note: 0,
+        removed: 0,
     };
-    let len = number(*len_low, *len_high);
-    if !entry_ok(
-        prev,
-        layout.end(),
-        layout.added,
-        *letter,
-        number(*start_low, *start_high),
-        len,
-    ) {
-        return Err(FileFault::Contents { place });
+    let mut last = None;
+    for (i, entry) in Entries(bytes).enumerate() {
+        let Some(kind) = right_kind(last, layout, entry) else {
+            return Err(FileFault::Contents { place: 5 + 5 * i });
+        };
+        layout = layout.with_body(kind, usize::from(entry.len));
+        last = Some(kind);
     }
-    contents(
-        rest,
-        left - 1,
-        place + 5,
-        *letter,
-        with_body(layout, *letter, len),
-    )
+    Ok(layout)
 }
 
 // The layout that the opening and the contents give, and that the file's length meets.
+#[tactic(auto, using(crate::proofs::Heads::layout_past), unfolding(crate::specs::Head::layout_of, crate::specs::Head::ended))]
 pub(crate) fn read_layout(file: &[u8]) -> Result<Layout, FileFault>
     ensures is { told file_cause result ≡ layout_of file.now }
     ensures sized { IfOk result (Sized (length file.now)) }
@@ -105,7 +112,7 @@ pub(crate) fn read_layout(file: &[u8]) -> Result<Layout, FileFault>
     if !opens(file) {
         return Err(FileFault::Opening);
     }
-    let n = file[4] as usize;
+    let n = usize::from(file[4]);
     if n > 3 {
         return Err(FileFault::Contents { place: 4 });
     }
@@ -113,13 +120,7 @@ pub(crate) fn read_layout(file: &[u8]) -> Result<Layout, FileFault>
     if file.len() < first {
         return Err(FileFault::Length { length: file.len() });
     }
-    let start = Layout {
-        first,
-        added: 0,
-        note: 0,
-        removed: 0,
-    };
-    let layout = contents(&file[5..], n, 5, 0, start)?;
+    let layout = contents(&file[5..first], n)?;
     if file.len() != layout.end() {
         return Err(FileFault::Length { length: file.len() });
     }

@@ -1,58 +1,62 @@
 // The whole judgement of a file, and its bodies as parts of it.
-ghost use Rattle.std.specs.Prelude.{◌≡◌, length, IfOk};
-ghost use Rattle.faults.specs.Causes.{told};
+ghost use Rattle.std.specs.Prelude.{◌≡◌, ◌+◌, ◌≤◌, length, IfOk};
+ghost use Rattle.faults.specs.Causes.{told_as};
 ghost use Rattle.faults.specs.Faults.{file_cause};
 ghost use Rattle.weekly.specs.Head.{Sized};
-ghost use Rattle.weekly.specs.Body.{added_bytes, note_bytes, removed_bytes};
-ghost use Rattle.weekly.specs.Read.{judged};
+ghost use Rattle.weekly.specs.Parts.{laid_out, PartsOf};
+ghost use Rattle.weekly.specs.Read.{judged, place_of_note};
 
 use crate::body::bodies;
 use crate::head::read_layout;
 use crate::layout::Layout;
 use faults::weekly::FileFault;
 
-// The bodies lie one after the other: additions, note, removals.
-pub(crate) fn added_part(file: &[u8], layout: Layout) -> &[u8]
-    requires { Sized (length file.now) layout }
-    ensures is { result.now ≡ added_bytes file.now layout }
-    ensures len { length result.now ≡ layout.added }
-{
-    let start = layout.first;
-    let end = start + layout.added;
-    &file[start..end]
+// The bodies as parts of a file, one after the other, the first of them at `first`.
+#[derive(Clone, Copy)]
+pub(crate) struct Parts<'a> {
+    pub(crate) first: usize,
+    pub(crate) added: &'a [u8],
+    pub(crate) note: &'a [u8],
+    pub(crate) removed: &'a [u8],
 }
 
-pub(crate) fn note_part(file: &[u8], layout: Layout) -> &[u8]
-    requires { Sized (length file.now) layout }
-    ensures is { result.now ≡ note_bytes file.now layout }
-    ensures len { length result.now ≡ layout.note }
-{
-    let start = layout.first + layout.added;
-    let end = start + layout.note;
-    &file[start..end]
-}
+impl<'a> Parts<'a> {
+    // The parts of a file that ends with the layout's last body.
+    fn of(file: &'a [u8], layout: Layout) -> Parts<'a>
+        requires { Sized (length file.now) layout }
+        ensures layout { laid_out result ≡ layout }
+        ensures parts { PartsOf file.now result }
+    {
+        let (added, rest) = file[layout.first..].split_at(layout.added);
+        let (note, removed) = rest.split_at(layout.note);
+        Parts {
+            first: layout.first,
+            added,
+            note,
+            removed,
+        }
+    }
 
-pub(crate) fn removed_part(file: &[u8], layout: Layout) -> &[u8]
-    requires { Sized (length file.now) layout }
-    ensures is { result.now ≡ removed_bytes file.now layout }
-    ensures len { length result.now ≡ layout.removed }
-{
-    let start = layout.first + layout.added + layout.note;
-    let end = start + layout.removed;
-    &file[start..end]
+    // Where the note starts, 0 without one.
+    pub(crate) fn note_place(self) -> usize
+        requires { self.first + length self.added.now ≤ 1000 }
+        ensures { result ≡ place_of_note (laid_out self.entry) }
+    {
+        if self.note.is_empty() {
+            0
+        } else {
+            self.first + self.added.len()
+        }
+    }
 }
 
 // The opening, the contents and the length come first, then the bodies: the first cause in this order is the answer.
-pub(crate) fn judge(file: &[u8]) -> Result<Layout, FileFault>
-    ensures is { told file_cause result ≡ judged file.now }
-    ensures sized { IfOk result (λ layout. Sized (length file.now) layout) }
+#[tactic(auto, using(crate::proofs::Goods::judged_head))]
+pub(crate) fn judge(file: &[u8]) -> Result<Parts<'_>, FileFault>
+    ensures is { told_as laid_out file_cause result ≡ judged file.now }
+    ensures parts { IfOk result (PartsOf file.now) }
 {
-    let layout = read_layout(file)?;
-    bodies(
-        added_part(file, layout),
-        note_part(file, layout),
-        removed_part(file, layout),
-        layout.first,
-    )?;
-    Ok(layout)
+    let parts = Parts::of(file, read_layout(file)?);
+    bodies(&parts)?;
+    Ok(parts)
 }

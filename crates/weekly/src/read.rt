@@ -4,13 +4,11 @@ ghost use Rattle.faults.specs.Causes.{told};
 ghost use Rattle.batch.specs.Changes.{capacity_of, filled};
 ghost use Rattle.batch.specs.Drafts.{changes, memory_of};
 ghost use Rattle.faults.specs.Faults.{read_cause};
-ghost use Rattle.weekly.specs.Head.{Short};
 ghost use Rattle.weekly.specs.Marks.{marked, merged, TakenAll};
-ghost use Rattle.weekly.specs.Read.{place_of_note, read_answer, file_changes, file_note};
+ghost use Rattle.weekly.specs.Read.{read_answer, file_changes, file_note};
 
 use crate::fill::put_all;
-use crate::judge::{added_part, judge, note_part, removed_part};
-use crate::layout::Layout;
+use crate::judge::judge;
 use crate::reading::Reading;
 use batch::lent::Draft;
 use faults::draft::DraftFault;
@@ -22,45 +20,34 @@ fn take_in(draft: &mut Draft, added: &[u8], removed: &[u8])
     requires fits { TakenAll (marked true added.now ++ marked false removed.now) [] (capacity_of (memory_of draft.old)) }
     ensures changes { changes draft.new ≡ merged added.now removed.now }
     ensures memory { memory_of draft.new ≡ filled (changes draft.new) (memory_of draft.old) }
-    ensures same { draft.new.memory.ghost_name ≡ draft.old.memory.ghost_name }
+    ensures same { draft.new.rows.memory.ghost_name ≡ draft.old.rows.memory.ghost_name }
 {
     put_all(draft, added, true);
     put_all(draft, removed, false);
 }
 
-// Where the note starts, 0 without one.
-fn note_place(layout: Layout) -> usize
-    requires { Short layout }
-    ensures { result ≡ place_of_note layout }
-{
-    if layout.note == 0 {
-        0
-    } else {
-        layout.first + layout.added
-    }
-}
-
 // Reads a file into a draft, which has to be empty and to have room for the file's changes. A refusal leaves the draft as it was.
+#[tactic(auto, using(crate::proofs::Answered::read_not_empty, crate::proofs::Answered::read_faulty))]
 pub fn read(file: &[u8], draft: &mut Draft) -> Result<Reading, ReadFault>
     ensures answer { told read_cause result ≡ read_answer file.now (length (changes draft.old)) (capacity_of (memory_of draft.old)) }
     ensures changes { changes draft.new ≡ (if is_ok result then file_changes file.now else changes draft.old) }
     ensures memory { memory_of draft.new ≡ filled (changes draft.new) (memory_of draft.old) }
-    ensures same { draft.new.memory.ghost_name ≡ draft.old.memory.ghost_name }
+    ensures same { draft.new.rows.memory.ghost_name ≡ draft.old.rows.memory.ghost_name }
 {
     if draft.count() != 0 {
         return Err(ReadFault::NotEmpty);
     }
-    let layout = judge(file)?;
-    let count = layout.added / 2 + layout.removed / 2;
+    let parts = judge(file)?;
+    let count = parts.added.len() / 2 + parts.removed.len() / 2;
     let capacity = draft.capacity();
     if capacity < count {
         return Err(ReadFault::Draft(DraftFault::Full { capacity }));
     }
-    take_in(draft, added_part(file, layout), removed_part(file, layout));
+    take_in(draft, parts.added, parts.removed);
     Ok(Reading {
         count,
-        place: note_place(layout),
-        length: layout.note,
+        place: parts.note_place(),
+        length: parts.note.len(),
     })
 }
 
@@ -69,7 +56,7 @@ pub fn note(file: &[u8]) -> &[u8]
     ensures { result.now ≡ file_note file.now }
 {
     match judge(file) {
-        Ok(layout) => note_part(file, layout),
+        Ok(parts) => parts.note,
         Err(_) => &file[0..0],
     }
 }

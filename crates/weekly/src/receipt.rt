@@ -18,11 +18,7 @@ pub fn receipt(file: &[u8], out: &mut [u8]) -> Result<Reading, ReceiptFault>
     ensures answer { told receipt_cause result ≡ receipt_answer file.now (length out.old) }
     ensures after { out.new ≡ (if is_ok result then over file.now out.old else out.old) }
 {
-    let mut memory = [Change {
-        key: 0,
-        door: 0,
-        added: false,
-    }; 64];
+    let mut memory = [Change::default(); 64];
     let mut draft = Draft::new(&mut memory);
     let reading = read(file, &mut draft)?;
     let batch = draft.close();

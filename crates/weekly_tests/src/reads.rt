@@ -1,4 +1,5 @@
 use batch::lent::Draft;
+use faults::cause::Cause;
 use pairs::change::Change;
 use std::process::Abort;
 use std::test::Fail;
@@ -10,32 +11,26 @@ const WEEK: [u8; 33] = [
     12, 0x57, 0x65, 0x65, 0x6B, 0x20, 0x31, 0x32, 3, 40,
 ];
 
-const NONE: Change = Change {
-    key: 0,
-    door: 0,
-    added: false,
-};
-
 fn change(key: u8, door: u8, added: bool) -> Change {
     Change { key, door, added }
 }
 
-// The number and the value of the refusal, or 0 and the count.
-fn answer(file: &[u8], draft: &mut Draft) -> (u8, usize) {
-    match read(file, draft) {
-        Ok(reading) => (0, reading.count),
-        Err(fault) => {
-            let cause = fault.cause();
-            (cause.number, cause.value.unwrap_or(0))
-        }
-    }
+// How many changes were read, or the cause of the refusal.
+fn answer(file: &[u8], draft: &mut Draft) -> Result<usize, Cause> {
+    read(file, draft)
+        .map(|reading| reading.count)
+        .map_err(|fault| fault.cause())
+}
+
+fn cause(number: u8, value: Option<usize>) -> Result<usize, Cause> {
+    Err(Cause { number, value })
 }
 
 // A file that is refused leaves the draft empty and hands out no note.
 fn refused(rt: &impl Abort, file: &[u8], number: u8, value: usize) {
-    let mut memory = [NONE; 64];
+    let mut memory = [Change::default(); 64];
     let mut draft = Draft::new(&mut memory);
-    assert_eq!(rt; answer(file, &mut draft), (number, value));
+    assert_eq!(rt; answer(file, &mut draft), cause(number, Some(value)));
     assert_eq!(rt; draft.count(), 0);
     assert_eq!(rt; note(file).len(), 0);
 }
@@ -50,7 +45,7 @@ fn with_byte(at: usize, byte: u8) -> [u8; 33] {
 
 #[test]
 fn a_file_is_read(rt: HostRuntime) -> Result<(), Fail> {
-    let mut memory = [NONE; 64];
+    let mut memory = [Change::default(); 64];
     let mut draft = Draft::new(&mut memory);
     match read(&WEEK, &mut draft) {
         Ok(reading) => {
@@ -112,12 +107,12 @@ fn bodies(rt: HostRuntime) {
 
 #[test]
 fn drafts_that_do_not_take_it(rt: HostRuntime) {
-    let mut memory = [NONE; 2];
+    let mut memory = [Change::default(); 2];
     let mut draft = Draft::new(&mut memory);
-    assert_eq!(rt; answer(&WEEK, &mut draft), (11, 2));
+    assert_eq!(rt; answer(&WEEK, &mut draft), cause(11, Some(2)));
     assert!(rt; note(&WEEK) == b"Week 12".as_slice());
     assert!(rt; draft.put(change(9, 9, true)).is_ok());
-    assert_eq!(rt; answer(&WEEK, &mut draft), (26, 0));
-    assert_eq!(rt; answer(b"", &mut draft), (26, 0));
+    assert_eq!(rt; answer(&WEEK, &mut draft), cause(26, None));
+    assert_eq!(rt; answer(b"", &mut draft), cause(26, None));
     assert_eq!(rt; draft.count(), 1);
 }

@@ -1,29 +1,22 @@
 use batch::lent::Draft;
+use faults::cause::Cause;
 use pairs::change::Change;
 use std::test::Fail;
 use weekly::receipt::receipt;
 use weekly::write::write;
 
-const NONE: Change = Change {
-    key: 0,
-    door: 0,
-    added: false,
-};
-
-// The number and the value of the refusal, or 0 and the length.
-fn answer(changes: &[Change], note: &[u8], out: &mut [u8]) -> (u8, usize) {
-    let mut memory = [NONE; 64];
+// The length of the file, or the cause of the refusal.
+fn answer(changes: &[Change], note: &[u8], out: &mut [u8]) -> Result<usize, Cause> {
+    let mut memory = [Change::default(); 64];
     let mut draft = Draft::new(&mut memory);
     for change in changes {
         let _ = draft.put(*change);
     }
-    match write(&draft.close(), note, out) {
-        Ok(length) => (0, length),
-        Err(fault) => {
-            let cause = fault.cause();
-            (cause.number, cause.value.unwrap_or(0))
-        }
-    }
+    write(&draft.close(), note, out).map_err(|fault| fault.cause())
+}
+
+fn cause(number: u8, value: Option<usize>) -> Result<usize, Cause> {
+    Err(Cause { number, value })
 }
 
 const CHANGES: [Change; 2] = [
@@ -42,7 +35,7 @@ const CHANGES: [Change; 2] = [
 #[test]
 fn the_only_file(rt: HostRuntime) {
     let mut out = [7u8; 28];
-    assert_eq!(rt; answer(&CHANGES, b"Hi", &mut out), (0, 26));
+    assert_eq!(rt; answer(&CHANGES, b"Hi", &mut out), Ok(26));
     assert!(rt;
         &out == b"WKL1\x03A\x14\0\x02\0N\x16\0\x02\0R\x18\0\x02\0\x05\x0CHi\x03\x28\x07\x07"
     );
@@ -51,20 +44,23 @@ fn the_only_file(rt: HostRuntime) {
 #[test]
 fn without_a_body(rt: HostRuntime) {
     let mut out = [7u8; 13];
-    assert_eq!(rt; answer(&[], b"", &mut out), (0, 5));
+    assert_eq!(rt; answer(&[], b"", &mut out), Ok(5));
     assert!(rt; &out == b"WKL1\0\x07\x07\x07\x07\x07\x07\x07\x07");
-    assert_eq!(rt; answer(&[], b"Hi", &mut out), (0, 12));
+    assert_eq!(rt; answer(&[], b"Hi", &mut out), Ok(12));
     assert!(rt; &out == b"WKL1\x01N\x0A\0\x02\0Hi\x07");
 }
 
 #[test]
 fn refusals_leave_the_output(rt: HostRuntime) {
     let mut out = [7u8; 25];
-    assert_eq!(rt; answer(&CHANGES, b"Hi", &mut out), (28, 0));
-    assert_eq!(rt; answer(&CHANGES, &[32; 201], &mut out), (27, 200));
-    assert_eq!(rt; answer(&CHANGES, b"H\x1F", &mut out), (27, 1));
-    assert_eq!(rt; answer(&CHANGES, b"\x7F", &mut out), (27, 0));
-    assert_eq!(rt; answer(&CHANGES, &[32; 200], &mut out), (28, 0));
+    assert_eq!(rt; answer(&CHANGES, b"Hi", &mut out), cause(28, None));
+    assert_eq!(rt;
+        answer(&CHANGES, &[32; 201], &mut out),
+        cause(27, Some(200))
+    );
+    assert_eq!(rt; answer(&CHANGES, b"H\x1F", &mut out), cause(27, Some(1)));
+    assert_eq!(rt; answer(&CHANGES, b"\x7F", &mut out), cause(27, Some(0)));
+    assert_eq!(rt; answer(&CHANGES, &[32; 200], &mut out), cause(28, None));
     assert!(rt; out == [7; 25]);
 }
 

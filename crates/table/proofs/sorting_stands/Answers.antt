@@ -5,7 +5,7 @@ use Rattle.table.proofs.sorting_stands.Goals as goal
 
 pub returns : goal.returns
 returns g c =
-    let lt = g.T.Record.before in let irr = g.met.T.Record.irreflexive in let chain = g.met.T.Record.transitive in let total = g.met.T.Record.total in
+    let lt = g.T.Record.before in let irr = g.met.T.Record.order.irreflexive in let chain = g.met.T.Record.order.transitive in let total = g.met.T.Record.order.total in
     record {
       ascends = λ xs. up_ascends lt _ (up_sorted lt irr chain total xs);
       same = λ x xs. has_sorted lt irr chain total x xs;

@@ -1,30 +1,26 @@
-use Rattle.std.proofs.Common.{◌<◌, length, sym, refl, ◌∙◌, arith}
+use Rattle.std.proofs.Common.{◌-◌, ◌+◌, take, drop, refl, ◌∙◌, arith}
 use Rattle.std.proofs.lemmas.List.{length-map}
-use Rattle.registers.specs.Lines.{call, beside, column}
-use Rattle.registers.proofs.Columns.{kept, raised_none, raised_row, raised_end, blank}
+use Rattle.std.proofs.Math.Seq.{map-set_same}
+use Rattle.registers.specs.Lines.{said, beside, column}
+use Rattle.registers.proofs.Columns.{carried_row, part_column, part_calls, blank}
 use Rattle.registers.proofs.column.put.Goals as goal
 
-pub loop-j-init : goal.loop-j-init
-loop-j-init c = (c.requires.0, omega arith, refl, raised_none (column c.args.rows.now) c.args.count)
-
-pub loop-j-preserved : goal.loop-j-preserved
-loop-j-preserved c =
-    let xs = c.args.rows.now in
-    let ls = c.loop-j.rows in
-    let j = c.loop-j.j in
-    let i = c.loop-j.invariant in
-    let m = c.requires.1 in
-    let h : j < length ls = omega arith in
-    (omega arith, omega arith, kept call ls j _ blank h refl ∙ i.2, raised_row (column xs) ls (length-map xs beside ∙ sym c.loop-j.auto.rows) c.args.count j (omega arith) i.1 (omega arith) i.3)
+pub loop-line-preserved : goal.loop-line-preserved
+loop-line-preserved c =
+    let items = c.loop-line.line-items in
+    let i = c.loop-line.line-index in
+    let first = take (c.args.count + 1 - c.args.at) (drop c.args.at c.args.rows.now) in
+    let n = length-map first beside in
+    record {
+      column = rw (c.swap.ensures.x_after, c.swap.ensures.y_after) (carried_row (column first) items i c.args.«record» c.loop-line.carried (omega arith) (omega arith) c.loop-line.invariant.column);
+      calls = map-set_same said items i _ blank refl ∙ c.loop-line.invariant.calls;
+    }
 
 pub returns : goal.returns
 returns c =
-    let xs = c.args.rows.now in
-    let ls = c.loop-j.rows in
-    let i = c.loop-j.invariant in
-    let m = c.requires.1 in
-    let h : c.args.at < length ls = omega arith in
+    let ls = c.args.rows.now in
+    let items = c.loop-line.line-items in
     record {
-      column = raised_end (column xs) ls (length-map xs beside ∙ sym c.loop-j.auto.rows) c.args.count c.loop-j.j c.args.at c.args.«record» (omega arith) (omega arith) (omega arith) i.3;
-      calls = kept call ls c.args.at _ blank h refl ∙ i.2;
+      column = part_column ls items c.args.count c.args.at c.loop-line.line-index c.args.«record» c.loop-line.carried (omega arith) (omega arith) (omega arith) (omega arith) c.loop-line.invariant.column;
+      calls = part_calls ls items c.args.count c.args.at (c.args.count + 1 - c.args.at) c.loop-line.invariant.calls;
     }

@@ -1,10 +1,11 @@
-use Rattle.std.proofs.Common.{◌≡◌, ◌≤◌}
+-- the records so far are moved up by one line, and the calls are as they were
+use Rattle.std.proofs.Common.{◌≡◌}
 use Rattle.registers.specs.Lines.{calls, column}
-use Rattle.registers.proofs.Columns.{Raised}
+use Rattle.registers.proofs.Columns.{Carried}
 use Rattle.registers.proofs.column.put.Given as goal
 
-abbrev pub invariant-loop-j : goal.invariant-loop-j
-invariant-loop-j l = (l.at ≤ l.j) × (l.j ≤ l.count) × (calls l.rows ≡ calls l.initial.rows) × Raised (column l.initial.rows) (column l.rows) l.count l.j
-
-abbrev pub decreases-loop-j : goal.decreases-loop-j
-decreases-loop-j l = l.j
+abbrev pub invariant-loop-line : goal.invariant-loop-line
+invariant-loop-line l = record {
+  column : Carried (column l.initial.line-items) (column l.line-items) l.line-index l.fn.«record» l.carried;
+  calls : calls l.line-items ≡ calls l.initial.line-items;
+}

@@ -1,17 +1,20 @@
-use Rattle.std.proofs.Common.{◌*◌, ◌%◌, ◌^◌, ◌<◌, arith}
+use Rattle.std.proofs.Common.{arith}
 use Rattle.std.proofs.lemmas.Nat.{one_shl}
-use Rattle.search.proofs.Peels.{peeled}
-use Rattle.search.proofs.Transposes.{key_none, key_more, key_all}
+use Rattle.masks.proofs.Ascending.{comes, ends}
+use Rattle.search.proofs.Transposes.{key_more, key_all}
 use Rattle.search.proofs.forms.join_key.Goals as goal
 
-pub loop-rest-init : goal.loop-rest-init
-loop-rest-init c = key_none c.args.columns.now c.args.row c.args.k (omega arith) (omega arith)
+pub offset_bounds-columns-d : goal.offset_bounds-columns-d
+offset_bounds-columns-d c = omega (arith, (comes c.loop-d.d-iterator c.next.new.self c.in-Some.ensures.steps).small)
 
-pub loop-rest-preserved : goal.loop-rest-preserved
-loop-rest-preserved c =
-    let fits : c.loop-rest.rest < 2 ^ 64 = c.loop-rest.invariant.small in
-    let p = peeled c.loop-rest.rest fits (omega (arith, c.loop-rest-test.true)) in
-    key_more c.loop-rest.invariant p (1 * 2 ^ c.args.k % 2 ^ 64) (one_shl c.args.k 64 c.requires)
+pub bounds-columns-d : goal.bounds-columns-d
+bounds-columns-d c = (comes c.loop-d.d-iterator c.next.new.self c.in-Some.ensures.steps).small
+
+pub bounds-columns-d-in-loop-d : goal.bounds-columns-d-in-loop-d
+bounds-columns-d-in-loop-d c = (comes c.loop-d.d-iterator c.next.new.self c.in-Some.ensures.steps).small
+
+pub loop-d-preserved : goal.loop-d-preserved
+loop-d-preserved c = key_more c.loop-d.invariant (comes c.loop-d.d-iterator c.next.new.self c.in-Some.ensures.steps) _ (one_shl c.args.k 64 c.requires)
 
 pub returns : goal.returns
-returns c = key_all c.loop-rest.invariant c.loop-rest-test.false (omega arith)
+returns c = key_all c.loop-d.invariant (ends c.loop-d.d-iterator c.in-None.ensures.steps.0) (omega arith)

@@ -1,16 +1,20 @@
-use Rattle.std.proofs.Common.{◌^◌, ◌<◌, arith}
-use Rattle.search.proofs.Peels.{peeled}
-use Rattle.search.proofs.Shared.{shares_none, shares_same, seen_none, seen_all, seen_only, shares_step, within_step}
+use Rattle.std.proofs.Common.{arith}
+use Rattle.masks.proofs.Ascending.{comes, ends}
+use Rattle.search.proofs.Shared.{shares_same, seen_all, seen_only, shares_step, within_step}
 use Rattle.search.proofs.nodes.common.Goals as goal
 
-pub loop-rest-init : goal.loop-rest-init
-loop-rest-init c = (shares_none _ _ (seen_none c.args.set), (λ k h. h), omega arith)
+pub offset_bounds-rows-k : goal.offset_bounds-rows-k
+offset_bounds-rows-k c = omega (arith, (comes c.loop-k.k-iterator c.next.new.self c.in-Some.ensures.steps).small)
 
-pub loop-rest-preserved : goal.loop-rest-preserved
-loop-rest-preserved c =
-    let fits : c.loop-rest.rest < 2 ^ 64 = c.loop-rest.invariant.2 in
-    let p = peeled c.loop-rest.rest fits (omega (arith, c.loop-rest-test.true)) in
-    (shares_step c.args.set p c.loop-rest.invariant.1 c.loop-rest.invariant.0, within_step c.args.set p c.loop-rest.invariant.1, omega (arith, p.falls))
+pub bounds-rows-k : goal.bounds-rows-k
+bounds-rows-k c = (comes c.loop-k.k-iterator c.next.new.self c.in-Some.ensures.steps).small
+
+pub loop-k-preserved : goal.loop-k-preserved
+loop-k-preserved c =
+    let p = comes c.loop-k.k-iterator c.next.new.self c.in-Some.ensures.steps in
+    (shares_step c.args.set p c.loop-k.invariant.1 c.loop-k.invariant.0, within_step c.args.set p c.loop-k.invariant.1)
 
 pub returns : goal.returns
-returns c = shares_same c.loop-rest.invariant.0 (seen_only c.args.set c.loop-rest.rest) (seen_all c.args.set c.loop-rest.rest c.loop-rest-test.false)
+returns c =
+    shares_same c.loop-k.invariant.0 (seen_only c.args.set c.loop-k.k-iterator.left)
+    (seen_all c.args.set c.loop-k.k-iterator.left (ends c.loop-k.k-iterator c.in-None.ensures.steps.0))

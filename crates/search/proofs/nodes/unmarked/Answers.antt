@@ -1,25 +1,28 @@
-use Rattle.std.proofs.Common.{ℕ, ◌*◌, ◌%◌, ◌^◌, ◌<◌, sym, subst, arith}
-use lib.Count.{count_trailing_zeros}
+use Rattle.std.proofs.Common.{◌≡◌, arith}
 use Rattle.std.proofs.lemmas.Nat.{one_shl}
-use Rattle.search.specs.Nodes.{Unmarked}
-use Rattle.search.proofs.Peels.{has_zero, peeled}
-use Rattle.search.proofs.Shared.{unmarked_more, within_step}
+use Rattle.masks.proofs.Ascending.{comes}
+use Rattle.search.proofs.Peels.{has_zero}
+use Rattle.search.proofs.Shared.{unmarked_more, within_start, within_step}
 use Rattle.search.proofs.nodes.unmarked.Goals as goal
-use Rattle.search.proofs.nodes.unmarked.Goals.{then-watch-k-eq0, else-watch-k-eq0}
 
-pub loop-rest-init : goal.loop-rest-init
-loop-rest-init c = (record { part = λ k h. absurd (has_zero k h); bare = λ k b h. absurd (has_zero k h) }, (λ k h. h), omega arith)
+pub loop-k-init : goal.loop-k-init
+loop-k-init c = (record { part = λ k h. absurd (has_zero k h); bare = λ k b h. absurd (has_zero k h) }, within_start c.args.set (let e : c.into_iter-k-iterator.result.left ≡ c.args.set = cc in e))
 
-pub loop-rest-preserved : goal.loop-rest-preserved
-loop-rest-preserved c =
-    let rest = c.loop-rest.rest in
-    let U : ℕ → Type 0 = λ b. Unmarked c.args.watch.now c.args.marks c.args.set b in
-    let fits : rest < 2 ^ 64 = c.loop-rest.invariant.2 in
-    let p = peeled rest fits (omega (arith, c.loop-rest-test.true)) in
-    let j = count_trailing_zeros 64 rest in
-    let marked : U c.if-watch-k-eq0.bare = elim c.if-watch-k-eq0.branch [
-      | then-watch-k-eq0 w ↦
-          subst U (sym w.bare-is) (unmarked_more j (1 * 2 ^ j % 2 ^ 64) (one_shl j 64 p.small) (c.loop-rest.invariant.1 j p.low) w.if-watch-k-eq0.true c.loop-rest.invariant.0)
-      | else-watch-k-eq0 w ↦ subst U (sym w.bare-is) c.loop-rest.invariant.0
-    ] in
-    (marked, within_step c.args.set p c.loop-rest.invariant.1, omega (arith, p.falls))
+pub offset_bounds-watch-k : goal.offset_bounds-watch-k
+offset_bounds-watch-k c = omega (arith, (comes c.loop-k.k-iterator c.next.new.self c.in-Some.ensures.steps).small)
+
+pub bounds-watch-k : goal.bounds-watch-k
+bounds-watch-k c = (comes c.loop-k.k-iterator c.next.new.self c.in-Some.ensures.steps).small
+
+pub overflow_shl-bare : goal.overflow_shl-bare
+overflow_shl-bare c = (comes c.loop-k.k-iterator c.next.new.self c.in-Some.ensures.steps).small
+
+pub loop-k-preserved-then-watch-k-eq0 : goal.loop-k-preserved-then-watch-k-eq0
+loop-k-preserved-then-watch-k-eq0 c =
+    let p = comes c.loop-k.k-iterator c.next.new.self c.in-Some.ensures.steps in (
+      unmarked_more c.in-Some.k _ (one_shl c.in-Some.k 64 p.small) (c.loop-k.invariant.1 c.in-Some.k p.low) c.if-watch-k-eq0.true c.loop-k.invariant.0,
+      within_step c.args.set p c.loop-k.invariant.1,
+    )
+
+pub loop-k-preserved : goal.loop-k-preserved
+loop-k-preserved c = (c.loop-k.invariant.0, within_step c.args.set (comes c.loop-k.k-iterator c.next.new.self c.in-Some.ensures.steps) c.loop-k.invariant.1)

@@ -26,7 +26,7 @@ book_compared-requires g c =
     let b = c.args.batch.now in
     record {
       ready = record {
-        ascends = subst (λ z. Ascends before_by_pair z (length z)) (sym c.changes-changes.ensures) (front_ascends b.memory.now b.count b.within b.ascends);
+        ascends = subst (λ z. Ascends before_by_pair z (length z)) (sym c.changes-changes.ensures) (front_ascends b.rows.memory.now b.rows.count b.rows.within b.rows.ascends);
         fine = c.in_ok-plans.ensures.0;
       };
       compares = c.in_ok-plans.ensures.1;

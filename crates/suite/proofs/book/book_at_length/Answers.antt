@@ -1,5 +1,4 @@
 use Rattle.std.proofs.Common.{◌≡◌, length, replicate, Err, ap, ◌∙◌, arith}
-use Rattle.groups.specs.Plans.{nothing}
 use Rattle.std.proofs.lemmas.List.{length-replicate}
 use Rattle.std.proofs.lemmas.Result.{err_from_is_err_and}
 use Rattle.faults.specs.Faults.{suite_cause}
@@ -9,8 +8,8 @@ use Rattle.suite.specs.Steps.{lists_answer}
 use Rattle.suite.proofs.Judged.{refused_told, lists_refused, lists_of, large_room, found_fits}
 use Rattle.suite.proofs.book.book_at_length.Goals as goal
 
-pub returns-in_err-n : goal.returns-in_err-n
-returns-in_err-n g c =
+pub returns-in_err-found : goal.returns-in_err-found
+returns-in_err-found g c =
     let L = ledger g.P.ReadPlan g.P.ChangePlan g.R.Register c.args.plan.now c.args.register.now in
     let cs = c.args.changes.now in
     let new = c.args.new.now in
@@ -20,7 +19,7 @@ returns-in_err-n g c =
     let b : c.min-2.result ≡ list_capacity (length lapsed) = omega (arith, c.min-2.ensures) in
     refused_told L cs new lapsed c.from_residual.result p.0 p.1
     (lists_refused L cs (length new) (length lapsed) c.requires.ready.fine (suite_cause p.0)
-    (ap (λ z. Err (suite_cause z)) p.2 ∙ c.in_err-n.ensures.answer (large_room c.min.result c.min-2.result (replicate 196608 nothing) (length-replicate 196608 nothing) (omega (arith, c.min.ensures)) (omega (arith, c.min-2.ensures)))
+    (ap (λ z. Err (suite_cause z)) p.2 ∙ c.in_err-found.ensures.answer (large_room c.min.result c.min-2.result (replicate 196608 c.default-table.result) (length-replicate 196608 c.default-table.result) (omega (arith, c.min.ensures)) (omega (arith, c.min-2.ensures)))
     ∙ lists_of L cs c.args.plans.now c.requires.compares c.min.result c.min-2.result
     ∙ ap (λ z. lists_answer z c.min-2.result (arising L cs) (lapsing L cs)) a ∙ ap (λ z. lists_answer (list_capacity (length new)) z (arising L cs) (lapsing L cs)) b))
 
@@ -29,10 +28,8 @@ settle-requires g c =
     let L = ledger g.P.ReadPlan g.P.ChangePlan g.R.Register c.args.plan.now c.args.register.now in
     let new = c.args.new.now in
     let lapsed = c.args.lapsed.now in
-    let f = c.in_ok-n.ensures.found in
+    let f = c.in_ok-found.found in
     record {
       ready = c.requires.ready;
-      fits =
-          found_fits L c.args.changes.now c.args.plans.now c.requires.compares (length new) (length lapsed) c.min.result c.min-2.result c.in_ok-n.n c.in_ok-n.m c.find_groups.new.table
-          f.0 f.1 (omega (arith, c.min.ensures)) (omega (arith, c.min-2.ensures));
+      fits = found_fits L c.args.changes.now c.args.plans.now c.requires.compares (length new) (length lapsed) c.min.result c.min-2.result f.coming.now f.going.now c.in_ok-found.ensures.found (omega (arith, c.min.ensures)) (omega (arith, c.min-2.ensures));
     }

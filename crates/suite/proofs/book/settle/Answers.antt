@@ -6,12 +6,12 @@ use Rattle.suite.proofs.book.settle.Goals as goal
 pub returns-then-is_out_of_step : goal.returns-then-is_out_of_step
 returns-then-is_out_of_step g c =
     let L = ledger g.P.ReadPlan g.P.ChangePlan g.R.Register c.args.plan.now c.args.register.now in
-    settled_20 L c.args.changes.now c.args.coming.now c.args.going.now c.args.new.now c.args.lapsed.now c.requires.ready c.requires.fits c.if-is_out_of_step.ensures
+    settled_20 L c.args.changes.now c.args.found.coming.now c.args.found.going.now c.args.new.now c.args.lapsed.now c.requires.ready c.requires.fits c.if-is_out_of_step.ensures
 
 pub returns-then-wants_places : goal.returns-then-wants_places
 returns-then-wants_places g c =
     let L = ledger g.P.ReadPlan g.P.ChangePlan g.R.Register c.args.plan.now c.args.register.now in
-    settled_13 L c.args.changes.now c.args.coming.now c.args.going.now c.args.new.now c.args.lapsed.now c.requires.ready c.requires.fits c.if-is_out_of_step.ensures c.if-wants_places.ensures
+    settled_13 L c.args.changes.now c.args.found.coming.now c.args.found.going.now c.args.new.now c.args.lapsed.now c.requires.ready c.requires.fits c.if-is_out_of_step.ensures c.if-wants_places.ensures
 
 pub withdraw_all-requires : goal.withdraw_all-requires
 withdraw_all-requires g c =
@@ -26,7 +26,7 @@ permit_all-requires g c =
     let L = ledger p g.P.ChangePlan g.R.Register c.args.plan.now c.args.register.now in
     let x = c.withdraw_all.new.plan in
     let e = c.withdraw_all.ensures in
-    settled_addable L c.args.changes.now c.args.coming.now c.args.going.now c.args.new.now c.args.lapsed.now c.requires.ready c.requires.fits c.if-is_out_of_step.ensures c.if-wants_places.ensures
+    settled_addable L c.args.changes.now c.args.found.coming.now c.args.found.going.now c.args.new.now c.args.lapsed.now c.requires.ready c.requires.fits c.if-is_out_of_step.ensures c.if-wants_places.ensures
     (p.keys x) (p.doors x) (s x) (p.keys x) (p.doors x) (s x) (p.rows x) (p.rows x) e.keys e.doors e.rows e.spare
 
 pub returns : goal.returns
@@ -41,7 +41,7 @@ returns g c =
     let v = c.enter_all.new.register in
     let e = c.withdraw_all.ensures in
     let f = c.permit_all.ensures in
-    settled L c.args.changes.now c.args.coming.now c.args.going.now c.args.new.now c.args.lapsed.now c.requires.ready c.requires.fits c.if-is_out_of_step.ensures c.if-wants_places.ensures
+    settled L c.args.changes.now c.args.found.coming.now c.args.found.going.now c.args.new.now c.args.lapsed.now c.requires.ready c.requires.fits c.if-is_out_of_step.ensures c.if-wants_places.ensures
     (p.keys x) (p.doors x) (s x) (p.keys y) (p.doors y) (s y) (p.rows x) (p.rows y) e.keys e.doors e.rows e.spare
     f.keys f.doors f.rows f.spare (r.held u) (r.held v) (r.spare u) (r.spare v) (r.ascending c.args.register.now)
     c.strike_all.ensures.held c.strike_all.ensures.spare c.enter_all.ensures.held c.enter_all.ensures.spare

@@ -1,6 +1,5 @@
 use Rattle.std.proofs.Common.{◌≡◌, ◌-◌, length, take, replicate, Ok, refl, ap, ◌∙◌, arith}
 use Rattle.std.proofs.lemmas.List.{length-replicate, length-take-le}
-use Rattle.groups.specs.Plans.{nothing}
 use Rattle.suite.specs.Of.{ledger}
 use Rattle.suite.proofs.Compares.{table_rows}
 use Rattle.suite.proofs.Founds.{too_many, all_fit, founded_is, copied_groups, not_fitting, fitting}
@@ -16,10 +15,10 @@ returns-in_default g c =
     let n = c.keys-keys.result in
     let m = c.spare.result - 0 in
     let empty : length L.held ≡ 0 = omega (arith, c.count.ensures, c.if-count-gt0.false) in
-    let long : length (take m (replicate 65536 nothing)) ≡ L.spare = length-take-le m (replicate 65536 nothing) (omega (arith, length-replicate 65536 nothing, c.spare.ensures)) ∙ (omega (arith, c.spare.ensures)) in
+    let long : length (take m (replicate 65536 c.default-memory.result)) ≡ L.spare = length-take-le m (replicate 65536 c.default-memory.result) (omega (arith, length-replicate 65536 c.default-memory.result, c.spare.ensures)) ∙ (omega (arith, c.spare.ensures)) in
     let tr = table_rows (p.keys x) n (p.rows x) c.rows_of-rows.result c.rows_of-rows.ensures.long s.few_keys c.keys-keys.ensures c.rows_of-rows.ensures.rows in
     record {
-      answer = too_many L empty (not_fitting L empty (take m (replicate 65536 nothing)) (take (n - 0) c.rows_of-rows.result) c.doors.result long tr c.doors.ensures c.in_default.ensures);
+      answer = too_many L empty (not_fitting L empty (take m (replicate 65536 c.default-memory.result)) (take (n - 0) c.rows_of-rows.result) c.doors.result long tr c.doors.ensures c.in_default.ensures);
       after = refl;
     }
 
@@ -34,10 +33,10 @@ returns g c =
     let n = c.keys-keys.result in
     let m = c.spare.result - 0 in
     let empty : length L.held ≡ 0 = omega (arith, c.count.ensures, c.if-count-gt0.false) in
-    let long : length (take m (replicate 65536 nothing)) ≡ L.spare = length-take-le m (replicate 65536 nothing) (omega (arith, length-replicate 65536 nothing, c.spare.ensures)) ∙ (omega (arith, c.spare.ensures)) in
+    let long : length (take m (replicate 65536 c.default-memory.result)) ≡ L.spare = length-take-le m (replicate 65536 c.default-memory.result) (omega (arith, length-replicate 65536 c.default-memory.result, c.spare.ensures)) ∙ (omega (arith, c.spare.ensures)) in
     let tr = table_rows (p.keys x) n (p.rows x) c.rows_of-rows.result c.rows_of-rows.ensures.long s.few_keys c.keys-keys.ensures c.rows_of-rows.ensures.rows in
     let z = c.in-Some.ensures in
-    let T = take m (replicate 65536 nothing) in
+    let T = take m (replicate 65536 c.default-memory.result) in
     let rows = take (n - 0) c.rows_of-rows.result in
     let same = copied_groups L empty T rows c.doors.result long tr c.doors.ensures in
     let fits = fitting L empty T rows c.doors.result long tr c.doors.ensures c.in-Some.count z.0 z.1 in

@@ -1,17 +1,11 @@
-use Rattle.std.proofs.Common.{sym, ◌∙◌}
-use Rattle.std.proofs.lemmas.List.{at_drop_all}
+use Rattle.std.proofs.Common.{refl, rules}
+use Rattle.std.proofs.lemmas.List.Recursion.{or_is}
+use Rattle.table.specs.Sets.{has}
+use Rattle.groups.specs.Orders.{group_before}
+use Rattle.groups.specs.Plans.{nothing}
 use Rattle.ledger.specs.Ledger.{some_are_held}
-use Rattle.suite.proofs.Held.{some_more, some_found}
 use Rattle.suite.proofs.lists.some_held.Goals as goal
 
-pub returns-then-holds : goal.returns-then-holds
-returns-then-holds g c =
-    some_found c.args.groups.now (g.R.Register.held c.args.register.now) c.loop-group.group-index c.loop-group-test.true (sym c.holds.ensures ∙ c.if-holds.true) c.loop-group.invariant
-
-pub loop-group-preserved : goal.loop-group-preserved
-loop-group-preserved g c =
-    some_more c.args.groups.now (g.R.Register.held c.args.register.now) c.loop-group.group-index c.loop-group-test.true (sym c.holds.ensures ∙ c.if-holds.false) c.loop-group.invariant
-
 pub returns : goal.returns
-returns g c =
-    sym (at_drop_all (λ z. some_are_held z (g.R.Register.held c.args.register.now)) c.args.groups.now c.loop-group.group-index c.loop-group-test.false) ∙ c.loop-group.invariant
+returns g c = let held = g.R.Register.held c.args.register.now in
+    or_is (λ gs. some_are_held gs held) (λ x. has group_before x held) refl (λ _ _. refl) c.args.groups.now nothing _ (search rules) (search rules)

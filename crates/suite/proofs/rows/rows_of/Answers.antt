@@ -16,7 +16,7 @@ loop-key-preserved g c =
     let f = s.few_keys in
     let m : length table ≡ 64 = c.loop-key.invariant.0 in
     let h : k < length rows = omega (arith, c.loop-key-test.true) in
-    elim c.match-new.branch [
+    elim c.match-try_from.branch [
       | in-Ok w ↦
           let v = w.doors_of.result in
           let n = number_made w.in-Ok.number.value k w.in-Ok.ensures in (

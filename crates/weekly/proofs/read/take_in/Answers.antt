@@ -1,4 +1,3 @@
-use Rattle.std.proofs.Common.{◌∙◌}
 use Rattle.batch.specs.Drafts.{changes, memory_of}
 use Rattle.weekly.proofs.Puts.{first_fits, second_fits, both_in, both_memory}
 use Rattle.weekly.proofs.read.take_in.Goals as goal
@@ -11,11 +10,12 @@ put_all-requires-2 c =
     let d = c.args.draft.now in let e = c.put_all.new.draft in
     second_fits c.args.added.now c.args.removed.now (memory_of d) (memory_of e) (changes d) (changes e) c.requires.empty c.requires.fits c.put_all.ensures.changes c.put_all.ensures.memory
 
-pub returns : goal.returns
-returns c =
+pub returns-clause-changes : goal.returns-clause-changes
+returns-clause-changes c =
+    let d = c.args.draft.now in let e = c.put_all.new.draft in
+    both_in c.args.added.now c.args.removed.now (memory_of d) (memory_of e) (changes d) (changes e) c.requires.empty c.requires.fits c.put_all.ensures.changes c.put_all.ensures.memory (changes c.put_all-2.new.draft) c.put_all-2.ensures.changes
+
+pub returns-clause-memory : goal.returns-clause-memory
+returns-clause-memory c =
     let d = c.args.draft.now in let e = c.put_all.new.draft in let f = c.put_all-2.new.draft in
-    record {
-      changes = both_in c.args.added.now c.args.removed.now (memory_of d) (memory_of e) (changes d) (changes e) c.requires.empty c.requires.fits c.put_all.ensures.changes c.put_all.ensures.memory (changes f) c.put_all-2.ensures.changes;
-      memory = both_memory c.args.added.now c.args.removed.now (memory_of d) (memory_of e) (changes d) (changes e) c.requires.empty c.requires.fits c.put_all.ensures.changes c.put_all.ensures.memory (changes f) (memory_of f) c.put_all-2.ensures.changes c.put_all-2.ensures.memory;
-      same = c.put_all-2.ensures.same ∙ c.put_all.ensures.same;
-    }
+    both_memory c.args.added.now c.args.removed.now (memory_of d) (memory_of e) (changes d) (changes e) c.requires.empty c.requires.fits c.put_all.ensures.changes c.put_all.ensures.memory (changes f) (memory_of f) c.put_all-2.ensures.changes c.put_all-2.ensures.memory

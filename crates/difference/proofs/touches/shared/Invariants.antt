@@ -1,0 +1,8 @@
+use Rattle.masks.specs.Masks.{Within}
+use Rattle.search.specs.Nodes.{Shares}
+use Rattle.search.proofs.Shared.{Seen}
+use Rattle.difference.proofs.touches.shared.Given as goal
+
+-- the members that are no more to come were looked at
+abbrev pub invariant-loop-k : goal.invariant-loop-k
+invariant-loop-k l = Shares l.rows l.initial.left (Seen l.set l.k-iterator.left) l.left × Within l.k-iterator.left l.set

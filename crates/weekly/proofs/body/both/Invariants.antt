@@ -1,0 +1,9 @@
+use Rattle.std.proofs.Common.{◌≡◌}
+use Rattle.weekly.specs.Body.{both_fault}
+use Rattle.weekly.specs.Pairs.{pairs_of}
+use Rattle.weekly.proofs.Bodies.{all_apart}
+use Rattle.weekly.proofs.body.both.Given as goal
+
+-- what the pairs so far leave to be judged
+abbrev pub invariant-loop-pair : goal.invariant-loop-pair
+invariant-loop-pair l = both_fault l.place l.removed l.added ≡ all_apart l.place l.removed (pairs_of l.pair-iterator.0.now)
