@@ -1,7 +1,11 @@
 -- What asks whether a group was found before: the keys or doors that can touch it, one by one.
-use Rattle.std.proofs.Common.{◌≡◌, ℕ, ◌+◌, ◌^◌, ◌<◌, ◌≤◌, List, length, get_or, sym, ap, subst, ⊎_elim, arith}
+use Rattle.std.proofs.Common.{◌≡◌, ℕ, ◌+◌, ◌^◌, ◌<◌, ◌≤◌, List, length, get_or, sym, ap, ◌∙◌, subst, ⊎_elim, arith}
 use lib.Bits.{bit_and, bit_or}
 use Rattle.std.proofs.lemmas.Bool.{cases_eq}
+use Rattle.std.proofs.lemmas.List.{get_or_default}
+use Rattle.std.proofs.lemmas.List.FromFn.{get_or-enumerate_from, length-enumerate_from}
+use Rattle.std.proofs.lemmas.Slice.Zip.{get_or-zip, length-zip}
+use Rattle.std.specs.List.{enumerate_from, zip}
 use Rattle.masks.specs.Masks.{Has, first_set}
 use Rattle.masks.proofs.Bitlaws.{and_has, below_has, has_and, has_more, has_more_same}
 use Rattle.masks.proofs.Joins.{first_has, first_only}
@@ -12,6 +16,23 @@ use Rattle.masks.proofs.Ascending.{Peeled}
 use Rattle.difference.specs.Changes.{ColumnTouches, KeyTouches, Losing, OnlyIn, Shared}
 use Rattle.difference.proofs.Marks.{no_has}
 
+-- ---- two lists side by side, each pair with its number
+pair_at : (bs rs : List ℕ) (n k b r : ℕ) → n < length bs → n < length rs → n < length (zip bs rs)
+    → get_or (enumerate_from 0 (zip bs rs)) n (k, (b, r)) ≡ (0 + n, (get_or bs n b, get_or rs n r))
+pair_at bs rs n k b r lb lr l = get_or-enumerate_from 0 (zip bs rs) n (k, (b, r)) l ∙ ap (λ (z : ℕ × ℕ). (0 + n, z)) (get_or-zip bs rs n (b, r) lb lr)
+
+apart : (k b r n x y : ℕ) → ◌≡◌ {A = ℕ × (ℕ × ℕ)} (k, (b, r)) (0 + n, (x, y)) → (k ≡ n) × (b ≡ x) × (r ≡ y)
+apart k b r n x y q = (omega (arith, ap (λ (z : ℕ × (ℕ × ℕ)). z.0) q), ap (λ (z : ℕ × (ℕ × ℕ)). z.1.0) q, ap (λ (z : ℕ × (ℕ × ℕ)). z.1.1) q)
+
+pub paired : (bs rs : List ℕ) (n k b r : ℕ) → n < length (enumerate_from 0 (zip bs rs)) → (k, (b, r)) ≡ get_or (enumerate_from 0 (zip bs rs)) n (k, (b, r))
+    → (k ≡ n) × (n < length bs) × (b ≡ get_or bs n 0) × (r ≡ get_or rs n 0)
+paired bs rs n k b r l e =
+    let within : n < length (zip bs rs) = omega (arith, length-enumerate_from 0 (zip bs rs)) in
+    let lb : n < length bs = omega (arith, length-zip bs rs) in
+    let lr : n < length rs = omega (arith, length-zip bs rs) in
+    let q = apart k b r n (get_or bs n b) (get_or rs n r) (e ∙ pair_at bs rs n k b r lb lr within) in
+    (q.0, lb, q.1 ∙ get_or_default bs n b 0 lb, q.2 ∙ get_or_default rs n r 0 lr)
+
 -- ---- the rows that lost something
 module _ (bs rs : List ℕ) (n k set : ℕ) (l : Losing bs rs n k set) where
   pub losing_more : (v : ℕ) → v ≡ 2 ^ k → Losing bs rs n (k + 1) (bit_or set v)
@@ -19,9 +40,9 @@ module _ (bs rs : List ℕ) (n k set : ℕ) (l : Losing bs rs n k set) where
       subst (λ (w : ℕ). Has (bit_or set w) i) (sym e)
       (⊎_elim (λ (q : i ≡ k). subst (Has (bit_or set (2 ^ k))) (sym q) (has_more_same set k)) (λ ne. has_more set k i (l i d (omega arith) ld o ab)) (cases_eq i k))
 
-  pub losing_same : (r : ℕ) → OnlyIn (get_or bs k 0) (get_or rs k 0) n r → r ≡ 0 → Losing bs rs n (k + 1) set
-  losing_same r q z i d li ld o ab =
-      ⊎_elim (λ (e : i ≡ k). absurd (no_has r d z (q.all d ld (subst (λ (j : ℕ). Opens bs j d) e o) (λ h. ab (subst (λ (j : ℕ). Opens rs j d) (sym e) h)))))
+  pub losing_same : (b a r : ℕ) → b ≡ get_or bs k 0 → a ≡ get_or rs k 0 → OnlyIn b a n r → r ≡ 0 → Losing bs rs n (k + 1) set
+  losing_same b a r eb ea q z i d li ld o ab =
+      ⊎_elim (λ (e : i ≡ k). absurd (no_has r d z (q.all d ld (subst (λ (w : ℕ). Has w d) (sym eb) (subst (λ (j : ℕ). Opens bs j d) e o)) (λ h. ab (subst (λ (j : ℕ). Opens rs j d) (sym e) (subst (λ (w : ℕ). Has w d) ea h))))))
       (λ ne. l i d (omega arith) ld o ab) (cases_eq i k)
 
 -- the same of lists that are these

@@ -8,7 +8,7 @@ use search::tables::Tables;
 
 // The keys that gained or lost a door, and the doors that lost a key.
 #[derive(Clone, Copy)]
-pub struct Changed {
+pub(crate) struct Changed {
     pub(crate) keys: u64,
     pub(crate) doors: u64,
 }
@@ -16,7 +16,7 @@ pub struct Changed {
 // Two plans by their rows and by their columns, the keys and doors that can touch a group, and the later plan, and the same turned, as the search
 // reads them.
 #[derive(Clone, Copy)]
-pub struct Comparison<'a> {
+pub(crate) struct Comparison<'a> {
     pub(crate) rows: Rows<'a>,
     pub(crate) columns: Rows<'a>,
     pub(crate) changed: Changed,

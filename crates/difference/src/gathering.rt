@@ -30,8 +30,8 @@ impl<'a> Rows<'a> {
         ensures { Watches self.entry.before.now self.entry.after.now gained lost result (length self.entry.before.now) }
     {
         let mut watch = [0; 64];
-        for (k, was) in self.before.iter().enumerate() {
-            watch[k] = self.after[k] & gained | *was & lost;
+        for (k, (was, is)) in self.before.iter().zip(self.after.iter()).enumerate() {
+            watch[k] = *is & gained | *was & lost;
         }
         watch
     }
@@ -60,6 +60,7 @@ impl<'a> Rows<'a> {
 impl<'a> Comparison<'a> {
     // Keeps in the places count..fresh of the table the groups that no key below u and no door below v touches, and returns where they end.
     // The place that is written follows the place that is read in the same slice, so both are told by an index.
+    // `u` and `v` are other numbers at each call, so that their bounds are clauses here, as in `touches`.
     fn sieve(self, u: usize, v: usize, table: &mut [Group], count: usize, fresh: usize) -> usize
         requires keys_to { u ≤ length self.rows.before.now }
         requires doors_to { v ≤ length self.columns.before.now }

@@ -10,11 +10,12 @@ ghost use Rattle.difference.specs.Both.{after_rows, before_rows, two_doors};
 ghost use Rattle.difference.specs.Changes.{TouchedAreNew, shared_count};
 ghost use Rattle.difference.specs.Places.{Written};
 
+use between::Between;
 use groups::group::Group;
 use search::tables::Tables;
 use two::TwoPlans;
-use writing::write_new;
 
+mod between;
 mod comparison;
 mod gathering;
 mod rows;
@@ -49,13 +50,21 @@ impl TwoPlans {
     pub fn new_groups(&self, table: &mut [Group], from: usize, limit: usize) -> Option<usize>
         ensures { Written (new_groups_of (before_rows self.now) (after_rows self.now) (two_doors self.now)) table.old table.new from limit result }
     {
-        write_new(&self.before, &self.after, table, from, limit)
+        Between {
+            before: &self.before,
+            after: &self.after,
+        }
+        .write_new(table, from, limit)
     }
 
     // Writes the groups of the earlier plan that are no groups of the later, in the same way.
     pub fn lapsed_groups(&self, table: &mut [Group], from: usize, limit: usize) -> Option<usize>
         ensures { Written (lapsed_groups_of (before_rows self.now) (after_rows self.now) (two_doors self.now)) table.old table.new from limit result }
     {
-        write_new(&self.after, &self.before, table, from, limit)
+        Between {
+            before: &self.after,
+            after: &self.before,
+        }
+        .write_new(table, from, limit)
     }
 }

@@ -10,7 +10,7 @@ use groups::group::Group;
 use masks::first;
 use masks::members::Members;
 
-// The numbers below n that a has and b lacks.
+// The numbers below n that a has and b lacks. Here and below n is a plain number with a bound, as in the search.
 pub(crate) fn only(a: u64, b: u64, n: usize) -> u64
     requires { n ≤ 64 }
     ensures { OnlyIn a b n result }
@@ -46,8 +46,8 @@ impl<'a> Rows<'a> {
         ensures { Losing self.entry.before.now self.entry.after.now n (length self.entry.before.now) result }
     {
         let mut set = 0;
-        for (k, was) in self.before.iter().enumerate() {
-            if only(*was, self.after[k], n) != 0 {
+        for (k, (was, is)) in self.before.iter().zip(self.after.iter()).enumerate() {
+            if only(*was, *is, n) != 0 {
                 set |= 1 << k;
             }
         }

@@ -6,6 +6,7 @@ ghost use Rattle.search.specs.Plans.{plan_doors, plan_rows};
 ghost use Rattle.difference.specs.Changes.{Compared, Marked};
 ghost use Rattle.difference.specs.Places.{Listed, Ordered, Written};
 
+use crate::between::Between;
 use crate::comparison::{Changed, Comparison};
 use crate::rows::Rows;
 use groups::group::Group;
@@ -24,34 +25,6 @@ fn changed(rows: Rows, columns: Rows) -> Changed
     }
 }
 
-// Both plans compared. `turned` is the plan `after` with keys and doors exchanged.
-fn compare<'a>(before: &'a Tables, after: &'a Tables, turned: &'a Tables) -> Comparison<'a>
-    requires keys { length (plan_rows after.now) ≡ length (plan_rows before.now) }
-    requires doors { plan_doors after.now ≡ plan_doors before.now }
-    requires turned_rows { plan_rows turned.now ≡ columns (plan_rows after.now) (plan_doors after.now) }
-    requires turned_doors { plan_doors turned.now ≡ length (plan_rows after.now) }
-    ensures before { result.rows.before.now ≡ plan_rows before.now }
-    ensures after { result.rows.after.now ≡ plan_rows after.now }
-    ensures doors { length result.columns.before.now ≡ plan_doors before.now }
-{
-    let rows = Rows {
-        before: before.rows(),
-        after: after.rows(),
-    };
-    let columns = Rows {
-        before: before.columns(),
-        after: after.columns(),
-    };
-    let changed = changed(rows, columns);
-    Comparison {
-        rows,
-        columns,
-        changed,
-        later: after,
-        turned,
-    }
-}
-
 // Puts the first `end` places of the table into order.
 fn order(table: &mut [Group], end: usize)
     requires { end ≤ length table.old }
@@ -60,33 +33,52 @@ fn order(table: &mut [Group], end: usize)
     table[..end].sort_unstable();
 }
 
-// Writes the groups of the plan `after` that are none of the plan `before` to the first places of the table, ascending, and returns where they end;
-// or None where there are more than half of the places.
-fn list_new(before: &Tables, after: &Tables, table: &mut [Group]) -> Option<usize>
-    requires keys { length (plan_rows after.now) ≡ length (plan_rows before.now) }
-    requires doors { plan_doors after.now ≡ plan_doors before.now }
-    ensures { Listed (New (plan_rows before.now) (plan_rows after.now) (plan_doors before.now)) table.old table.new 0 (length table.old / 2) result }
-{
-    let turned = after.turned();
-    let end = compare(before, after, &turned).gather(table)?;
-    order(table, end);
-    Some(end)
-}
+impl<'a> Between<'a> {
+    // Both plans compared. `turned` is the later plan with keys and doors exchanged.
+    fn compare(self, turned: &'a Tables) -> Comparison<'a>
+        requires turned_rows { plan_rows turned.now ≡ columns (plan_rows self.after.now) (plan_doors self.after.now) }
+        requires turned_doors { plan_doors turned.now ≡ length (plan_rows self.after.now) }
+        ensures before { result.rows.before.now ≡ plan_rows self.entry.before.now }
+        ensures after { result.rows.after.now ≡ plan_rows self.entry.after.now }
+        ensures doors { length result.columns.before.now ≡ plan_doors self.entry.before.now }
+    {
+        let Between { before, after } = self;
+        let rows = Rows {
+            before: before.rows(),
+            after: after.rows(),
+        };
+        let columns = Rows {
+            before: before.columns(),
+            after: after.columns(),
+        };
+        let changed = changed(rows, columns);
+        Comparison {
+            rows,
+            columns,
+            changed,
+            later: after,
+            turned,
+        }
+    }
 
-// The same in a table of any length, at any place: see `TwoPlans::new_groups`.
-pub(crate) fn write_new(
-    before: &Tables,
-    after: &Tables,
-    table: &mut [Group],
-    from: usize,
-    limit: usize,
-) -> Option<usize>
-    requires keys { length (plan_rows after.now) ≡ length (plan_rows before.now) }
-    requires doors { plan_doors after.now ≡ plan_doors before.now }
-    ensures { Written (new_groups_of (plan_rows before.now) (plan_rows after.now) (plan_doors before.now)) table.old table.new from limit result }
-{
-    let start = from.min(table.len());
-    let limit = limit.min((table.len() - start) / 2);
-    let end = list_new(before, after, &mut table[start..start + 2 * limit])?;
-    Some(from + end)
+    // Writes the groups that come up to the first places of the table, ascending, and returns where they end; or None where there are more than half
+    // of the places.
+    fn list_new(self, table: &mut [Group]) -> Option<usize>
+        ensures { Listed (New (plan_rows self.entry.before.now) (plan_rows self.entry.after.now) (plan_doors self.entry.before.now)) table.old table.new 0 (length table.old / 2) result }
+    {
+        let turned = self.after.turned();
+        let end = self.compare(&turned).gather(table)?;
+        order(table, end);
+        Some(end)
+    }
+
+    // The same in a table of any length, at any place: see `TwoPlans::new_groups`.
+    pub(crate) fn write_new(self, table: &mut [Group], from: usize, limit: usize) -> Option<usize>
+        ensures { Written (new_groups_of (plan_rows self.entry.before.now) (plan_rows self.entry.after.now) (plan_doors self.entry.before.now)) table.old table.new from limit result }
+    {
+        let start = from.min(table.len());
+        let limit = limit.min((table.len() - start) / 2);
+        let end = self.list_new(&mut table[start..start + 2 * limit])?;
+        Some(from + end)
+    }
 }

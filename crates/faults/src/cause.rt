@@ -1,4 +1,5 @@
-// Why a call was turned down, as the table of causes has it: the number of the cause, and what is returned with it.
+// Why a call was turned down, as the table of causes has it: the number of the cause, and what is returned with it. The number is the table's
+// own, over the faults of all layers, which are enums.
 ghost use Rattle.std.specs.Prelude.{◌++◌, ◌∷◌, Some, decimal, unwrap_or};
 
 use std::fmt;

@@ -44,7 +44,7 @@ impl Line {
     }
 
     // The mask as 16 hexadecimal digits, the highest first. By hand, since the library's `hex` writes bytes, which would have to be
-    // checked to be text.
+    // checked to be text, and a formatter, as for `{:016x}`, may fail.
     pub(crate) fn add_mask(&mut self, mask: u64)
         requires { length (line_bytes self.old) + 16 < 48 }
         ensures { line_bytes self.new ≡ line_bytes self.old ++ (32 ∷ hexadecimal mask) }

@@ -9,8 +9,8 @@ ghost use Rattle.plans.specs.Pairs.{all_inside};
 use numbers::number::Sizes;
 use pairs::pair::Pair;
 
-// A row of doors for each key and a column of keys for each door. They agree, and lie within the sizes. Arrays, since there is no heap, and
-// not the tables of the search: these are made once, and a plan changes pair by pair.
+// A row of doors for each key and a column of keys for each door. They agree, and lie within the sizes. There are 64
+// of each, so that each key and door number is an index. They are not the tables of the search: these are made once, and a plan changes pair by pair.
 #[derive(Clone, Copy)]
 pub struct TablePlan {
     pub(crate) rows: [u64; 64],

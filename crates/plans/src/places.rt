@@ -1,7 +1,7 @@
 // What the makes of a plan have in common: a pair has a place where it stands or would go, and only what is written there is the
 // make's own. That a pair lies within the sizes is a clause of three methods and no type: it would hold sizes, and each clause would
 // still have to say that they are the plan's.
-ghost use Rattle.std.specs.Prelude.{◌≡◌, ℕ, ◌+◌, ◌-◌, ◌<◌, true, is_ok, Ok, Err, Result, if◌then◌else◌};
+ghost use Rattle.std.specs.Prelude.{◌≡◌, ℕ, ◌+◌, ◌-◌, ◌<◌, true, false, is_ok, Ok, Err, Result, MatchOption, if◌then◌else◌};
 ghost use Rattle.faults.specs.Causes.{told};
 ghost use Rattle.faults.specs.Faults.{plan_cause};
 ghost use Rattle.groups.specs.Lists.{addition, removal, permitted, withdrawn};
@@ -52,11 +52,19 @@ pub(crate) trait Places: ReadPlan {
         ensures spare { spare self.new ≡ spare self.old + 1 };
 }
 
-// Whether the plan has the key and the door.
-fn inside<P: ReadPlan>(plan: &P, pair: Pair) -> bool
-    ensures { result ≡ inside (P.keys plan.now) (P.doors plan.now) pair.key pair.door }
+// The pair of the two numbers, if the plan has the key and the door.
+fn pair_inside<P: ReadPlan>(plan: &P, key: KeyNo, door: DoorNo) -> Option<Pair>
+    ensures { MatchOption result (inside (P.keys plan.now) (P.doors plan.now) (key_number key) (door_number door) ≡ false) (λ pair. (pair.key ≡ key_number key) × (pair.door ≡ door_number door) × (inside (P.keys plan.now) (P.doors plan.now) pair.key pair.door ≡ true)) }
 {
-    pair.key < plan.keys() && pair.door < plan.doors()
+    let pair = Pair {
+        key: u8::from(key),
+        door: u8::from(door),
+    };
+    if pair.key < plan.keys() && pair.door < plan.doors() {
+        Some(pair)
+    } else {
+        None
+    }
 }
 
 // Puts the pair in, if it lies within the sizes, does not stand, and has a place.
@@ -67,13 +75,9 @@ pub(crate) fn permit<P: Places>(plan: &mut P, key: KeyNo, door: DoorNo) -> Resul
     ensures rows { P.ReadPlan.rows plan.new ≡ (if is_ok result then permitted (addition (key_number key) (door_number door)) (P.ReadPlan.rows plan.old) else P.ReadPlan.rows plan.old) }
     ensures spare { P.spare plan.new ≡ (if is_ok result then P.spare plan.old - 1 else P.spare plan.old) }
 {
-    let pair = Pair {
-        key: u8::from(key),
-        door: u8::from(door),
-    };
-    if !inside(plan, pair) {
+    let Some(pair) = pair_inside(plan, key, door) else {
         return Err(PlanFault::Outside);
-    }
+    };
     let Err(at) = plan.find(pair) else {
         return Err(PlanFault::Stands);
     };
@@ -92,13 +96,9 @@ pub(crate) fn withdraw<P: Places>(plan: &mut P, key: KeyNo, door: DoorNo) -> Res
     ensures rows { P.ReadPlan.rows plan.new ≡ (if is_ok result then withdrawn (removal (key_number key) (door_number door)) (P.ReadPlan.rows plan.old) else P.ReadPlan.rows plan.old) }
     ensures spare { P.spare plan.new ≡ (if is_ok result then P.spare plan.old + 1 else P.spare plan.old) }
 {
-    let pair = Pair {
-        key: u8::from(key),
-        door: u8::from(door),
-    };
-    if !inside(plan, pair) {
+    let Some(pair) = pair_inside(plan, key, door) else {
         return Err(PlanFault::Outside);
-    }
+    };
     let Ok(at) = plan.find(pair) else {
         return Err(PlanFault::Absent);
     };

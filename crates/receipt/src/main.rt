@@ -67,18 +67,20 @@ fn print_steps(rt: &HostRuntime, from: &str, file: &[u8]) -> anyhow::Result<()> 
     Ok(())
 }
 
-// One file and its receipt, which has the file's length.
+// One file and its receipt. The longest file that can be read has 348 bytes: an array, since a longer one is refused before anything is
+// allocated for its receipt.
 fn issue(rt: &HostRuntime, from: &str, to: &str) -> anyhow::Result<()> {
     let file = fs::read(rt, from)?;
-    let length = file.len();
-    let mut out = vec![in rt.alloc(); 0u8; length]?;
-    if let Err(fault) = receipt(file.as_slice(), out.as_mut_slice()) {
+    let mut out = [0u8; 348];
+    if let Err(fault) = receipt(file.as_slice(), &mut out) {
         return print_refusal(rt, &fault);
     }
     print_steps(rt, from, file.as_slice())?;
-    fs::write(rt, to, out.as_slice())?;
+    let length = file.len().min(out.len());
+    let out = &out[..length];
+    fs::write(rt, to, out)?;
     println!(rt; "written {to}: {length} bytes")?;
-    if out.as_slice() == file.as_slice() {
+    if out == file.as_slice() {
         rt.println("its bytes are the file's own")?;
     }
     Ok(())

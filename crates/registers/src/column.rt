@@ -33,7 +33,8 @@ pub(crate) fn put(rows: &mut [Line], count: usize, at: usize, record: Group)
     }
 }
 
-// Takes away what stands beside the line at `at`, and moves what stands after it, up to `count`, down by one.
+// Takes away what stands beside the line at `at`, and moves what stands after it, up to `count`, down by one: by an index, since the row that
+// is written and the one that is read are neighbours in one slice.
 pub(crate) fn take_out(rows: &mut [Line], count: usize, at: usize)
     requires { (at < count) × (count ≤ length rows.old) }
     ensures column { column rows.new ≡ without_row (column rows.old) count at }

@@ -1,4 +1,5 @@
-// The rows of a plan in the forms that the search reads: 64 rows, and the plan turned.
+// The rows of a plan in the forms that the search reads: 64 rows, and the plan turned. Numbers of keys and doors are plain numbers with a
+// bound in each contract: a type for them would be taken apart at every use.
 ghost use Rattle.std.specs.Prelude.{◌≡◌, ◌<◌, ◌≤◌};
 ghost use Rattle.search.specs.Nodes.{Cut, Transposed, WithKey};
 ghost use Rattle.search.specs.Parts.{padded_rows};

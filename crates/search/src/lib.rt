@@ -1,5 +1,6 @@
 // Lists the groups of a plan, all of them or those with some property of their keys, straight into a table, ascending.
 // A plan has a row for each key, the set of the doors that the key opens. Only the first 64 rows and the first 64 doors count.
+// The table and the count from which on it is filled are two parameters: the caller's table is a plain slice, and goes on being his.
 #![tactic(auto)]
 
 ghost use Rattle.std.specs.Prelude.{◌≡◌};

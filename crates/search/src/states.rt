@@ -4,7 +4,7 @@ ghost use Rattle.search.specs.Nodes.{Reads};
 
 // A plan as the search reads it: its rows, the keys of each of its doors, the rows to watch, and the number of its doors.
 #[derive(Clone, Copy)]
-pub struct Plan<'a> {
+pub(crate) struct Plan<'a> {
     pub(crate) rows: &'a [u64; 64],
     pub(crate) columns: &'a [u64; 64],
     pub(crate) watch: &'a [u64; 64],
@@ -19,7 +19,7 @@ pub struct Plan<'a> {
 // `marks` is what the rows to watch share for the keys, and `left` has the keys that may join and open one of the doors.
 // That this holds is asked by `Plan::visit` alone: it is said of a plan and a node together, and by cases, so it is no ghost field.
 #[derive(Clone, Copy)]
-pub struct Node {
+pub(crate) struct Node {
     pub(crate) keys: u64,
     pub(crate) out: u64,
     pub(crate) doors: u64,
@@ -29,7 +29,7 @@ pub struct Node {
 
 // The keys that open all of some doors, and those that open at least one of them.
 #[derive(Clone, Copy)]
-pub struct Openers {
+pub(crate) struct Openers {
     pub(crate) all: u64,
     pub(crate) some: u64,
 }

@@ -4,7 +4,8 @@ ghost use Rattle.masks.specs.Masks.{bit};
 ghost use Rattle.search.specs.Parts.{turned_into};
 
 // A plan of at most 64 keys and 64 doors, by its rows, for each key the doors that it opens, and by its columns, for each door the keys that open it.
-// There are 64 of each: those past the plan's are empty. Arrays with a count beside them, since the search takes no heap.
+// There are 64 of each: those past the plan's are empty. All 64 stand there, so that each
+// member of a set is an index, and the counts beside them.
 #[derive(Clone, Copy)]
 pub struct Tables {
     pub(crate) rows: [u64; 64],

@@ -1,4 +1,5 @@
-// The causes by which a batch is turned down before any group is looked for.
+// The causes by which a batch is turned down before any group is looked for. Rows and number of doors are two parameters here and below: they
+// go into the search's tables at once, and no type between would say more.
 ghost use Rattle.std.specs.Prelude.{◌≡◌, ◌+◌, ◌≤◌, length, Ok};
 ghost use Rattle.faults.specs.Causes.{told};
 ghost use Rattle.faults.specs.Faults.{suite_cause};

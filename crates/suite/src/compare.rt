@@ -21,7 +21,7 @@ fn too_few_places(spare: usize, changes: &[Change]) -> bool
     spare + (changes.len() - additions) < additions
 }
 
-// The plan of these rows, and with the batch carried out.
+// The plan of these rows, and with the batch carried out. Numbers of keys and doors are plain numbers with a bound, as in the search.
 fn both_plans(rows: &[u64], doors: u8, changes: &[Change]) -> TwoPlans
     requires keys { length rows.now ≤ 64 }
     requires doors { doors ≤ 64 }

@@ -17,7 +17,7 @@ use search::tables::Tables;
 // No register has more places. The table is an array on the stack, since founding allocates nothing.
 const PLACES: usize = 65536;
 
-// Writes the groups of the plan to the table and answers how many there are, or None where there are more than it has places.
+// Writes the groups of the plan, by its rows and its number of doors, to the table and answers how many there are, or None where there are more than it has places.
 fn list_groups(rows: &[u64], doors: usize, table: &mut [Group]) -> Option<usize>
     requires keys { length rows.now ≤ 64 }
     requires doors { doors ≤ 64 }

@@ -10,7 +10,8 @@ use numbers::number::KeyNo;
 use pairs::change::Change;
 use plans::plan::ReadPlan;
 
-// The row of each key of the plan, in a table of 64: by the number of the key, from which the key is made.
+// The row of each key of the plan, in a table of 64, which the caller cuts to the number of keys: by the number of the key, from which the
+// key is made.
 pub(crate) fn rows_of<P: ReadPlan>(plan: &P) -> [u64; 64]
     ensures long { length result ≡ 64 }
     ensures rows { take (P.ReadPlan.keys plan.now) result ≡ P.ReadPlan.rows plan.now }

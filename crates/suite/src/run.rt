@@ -36,7 +36,7 @@ fn fill(draft: &mut Draft, list: &[Change]) -> Result<(), DraftFault>
     Ok(())
 }
 
-// Puts the changes into a draft, closes it and books it.
+// Puts the changes into a draft, closes it and books it. The draft's memory is an array of the call's own, since booking allocates nothing.
 fn book_changes<P: ChangePlan, R: Register>(
     list: &[Change],
     plan: &mut P,

@@ -1,4 +1,5 @@
-// The ascending table: records of any kind that has a total order, kept ascending in the first rows of a lent slice.
+// The ascending table: records of any kind that has a total order, kept ascending in the first rows of a lent slice. It is functions over the
+// slice and a count, and no type that holds both: who lends the memory keeps it in a type of his own, with the facts that are his.
 #![tactic(auto)]
 
 ghost use Rattle.std.specs.Prelude.{◌≡◌, ℕ, ◌+◌, ◌-◌, ◌<◌, ◌≤◌, Bool, true, false, ◌&&◌, length, take, if◌then◌else◌, Ok, Err, MatchResult, nat_le, nat_lt};
@@ -39,7 +40,7 @@ pub fn put<T: Record>(rows: &mut [T], count: usize, at: usize, x: T) -> bool
     true
 }
 
-// Takes the row at `at` away, and moves the rows after it, up to `count`, down by one. False, and nothing done, where
+// Takes the row at `at` away, and moves the rows after it, up to `count`, down by one. False, as in `put`, and nothing done, where
 // `at` is not below `count` or `count` is past the memory's end.
 pub fn take_out<T: Record>(rows: &mut [T], count: usize, at: usize) -> bool
     ensures test { result ≡ (nat_lt at count && nat_le count (length rows.old)) }

@@ -9,7 +9,7 @@ use Rattle.table.proofs.Ups.{Below, Up}
 use Rattle.batch.specs.Changes.{in_range}
 use Rattle.faults.specs.declared.cause.Cause.{Cause}
 use Rattle.weekly.proofs.Merges.{up_by_pair}
-use Rattle.weekly.specs.declared.layout.Layout.{Layout}
+use Rattle.weekly.specs.Places.{Places}
 use Rattle.weekly.specs.Body.{and_then, pair_number, pair_ok, pairs_fault, note_byte, first_bad_byte, byte_fault, text_fault, apart_fault, both_fault, bodies_fault, added_bytes, note_bytes, removed_bytes}
 use Rattle.weekly.specs.Marks.{same, bytes_of}
 use Rattle.weekly.specs.Head.{two_bytes, is_entry_ok, with_a_body, entries, bodies_start, bodies_end, ended, layout_of}
@@ -146,10 +146,10 @@ five letter start len = letter ∷ start % 256 ∷ start / 256 ∷ len % 256 ∷
 two_parts : (s : ℕ) → two_bytes (s % 256) (s / 256) ≡ s
 two_parts s = omega arith
 
-abbrev laid : ℕ → ℕ → ℕ → ℕ → Layout
+abbrev laid : ℕ → ℕ → ℕ → ℕ → Places
 laid a b c d = record { first = a; added = b; note = c; removed = d }
 
-module _ (k : ℕ) (rest : List ℕ) (place prev : ℕ) (got : Layout) (letter s len : ℕ) (right : (len ≡ 0) ⊎ (is_entry_ok prev (bodies_end got) got.added letter s len ≡ true)) (none : len ≡ 0 → with_a_body got letter len ≡ got) where
+module _ (k : ℕ) (rest : List ℕ) (place prev : ℕ) (got : Places) (letter s len : ℕ) (right : (len ≡ 0) ⊎ (is_entry_ok prev (bodies_end got) got.added letter s len ≡ true)) (none : len ≡ 0 → with_a_body got letter len ≡ got) where
   one_entry : is_entry_ok prev (bodies_end got) got.added letter s len ≡ true
       → entries (suc k) (five letter s len ++ rest) place prev got ≡ entries k rest (place + 5) letter (with_a_body got letter len)
   unfolding entries
@@ -158,7 +158,7 @@ module _ (k : ℕ) (rest : List ℕ) (place prev : ℕ) (got : Layout) (letter s
       ∙ ap (λ (z : ℕ). entries k rest (place + 5) letter (with_a_body got letter z)) (two_parts len)
 
   entry_at : (b : Bool) → eqb len 0 ≡ b → entries (cond b 0 1 + k) (cond b [] (five letter s len) ++ rest) place prev got ≡ entries k rest (cond b place (place + 5)) (cond b prev letter) (with_a_body got letter len)
-  entry_at true e = ap (λ (z : ℕ). entries z rest place prev got) (zero-add k) ∙ ap (λ (v : Layout). entries k rest place prev v) (sym (none (eqb-true len 0 e)))
+  entry_at true e = ap (λ (z : ℕ). entries z rest place prev got) (zero-add k) ∙ ap (λ (v : Places). entries k rest place prev v) (sym (none (eqb-true len 0 e)))
   entry_at false e =
       ap (λ (z : ℕ). entries z (five letter s len ++ rest) place prev got) (one-add k)
       ∙ ⊎_elim (λ (q : len ≡ 0). absurd (eqb-false len 0 e q)) one_entry right
@@ -181,7 +181,7 @@ last_A a = grind (arith, nat_tests)
 last_N : (n prev : ℕ) → prev ≤ 0x41 → cond (eqb n 0) prev 0x4E ≤ 0x4E
 last_N n prev h = grind (arith, nat_tests)
 
-abbrev good : Layout → Result Layout Cause
+abbrev good : Places → Result Places Cause
 good z = Ok z
 
 pub contents_back : (a n r : ℕ) (rest : List ℕ) → a % 2 ≡ 0 → r % 2 ≡ 0 → a + r ≤ 128 → n ≤ 200
@@ -197,7 +197,7 @@ contents_back a n r rest v w h l =
     ∙ (maybe_entry (present n + (present r + 0)) (note_entry g ++ (removed_entry g ++ rest)) 5 0 (laid f 0 0 0) 0x41 f a (right_A f a v (omega arith)) (λ q. ap (λ (z : ℕ). laid f z 0 0) (omega arith))
     ∙ (maybe_entry (present r + 0) (removed_entry g ++ rest) (cond (eqb a 0) 5 (5 + 5)) p1 (laid f (0 + a) 0 0) 0x4E (f + a) n (right_N p1 f a n (last_A a) l) (λ q. ap (λ (z : ℕ). laid f (0 + a) z 0) (omega arith))
     ∙ (maybe_entry 0 rest (cond (eqb n 0) (cond (eqb a 0) 5 (5 + 5)) (cond (eqb a 0) 5 (5 + 5) + 5)) p2 (laid f (0 + a) (0 + n) 0) 0x52 (f + a + n) r (right_R p2 f a n r (last_N n p1 (last_A a)) w h) (λ q. ap (λ (z : ℕ). laid f (0 + a) (0 + n) z) (omega arith))
-    ∙ ap (λ (z : Layout). good z) (ap (λ (z : ℕ). laid f z (0 + n) (0 + r)) (zero-add a) ∙ (ap (λ (z : ℕ). laid f a z (0 + r)) (zero-add n) ∙ ap (λ (z : ℕ). laid f a n z) (zero-add r))))))
+    ∙ ap (λ (z : Places). good z) (ap (λ (z : ℕ). laid f z (0 + n) (0 + r)) (zero-add a) ∙ (ap (λ (z : ℕ). laid f a z (0 + r)) (zero-add n) ∙ ap (λ (z : ℕ). laid f a n z) (zero-add r))))))
 
 at_most : (n : ℕ) → present n ≤ 1
 at_most n = grind (arith, nat_tests)
@@ -222,7 +222,7 @@ module _ (xs ns rs : List ℕ) (even-x : length xs % 2 ≡ 0) (even-r : length r
       cond-true _ _ _ (and_from _ _ (le-leb 5 (length (file_with xs ns rs)) (omega (arith, len))) refl)
       ∙ (cond-false _ _ _ (le-ltb 3 n few)
       ∙ (cond-false _ _ _ (le-ltb (length (file_with xs ns rs)) (5 + 5 * n) (omega (arith, len)))
-      ∙ (ap (λ (z : Result Layout Cause). ended (length (file_with xs ns rs)) z) contents_is
+      ∙ (ap (λ (z : Result Places Cause). ended (length (file_with xs ns rs)) z) contents_is
       ∙ cond-true _ _ _ (eq-eqb _ _ len))))
 
   pub part_x : added_bytes (file_with xs ns rs) (plan_of (length xs) (length ns) (length rs)) ≡ xs
@@ -249,7 +249,7 @@ module _ (xs ns rs : List ℕ) (even-x : length xs % 2 ≡ 0) (even-r : length r
   unfolding judged
   judged_back e =
       let g = plan_of (length xs) (length ns) (length rs) in
-      ap (λ (z : Result Layout Cause). with_bodies (file_with xs ns rs) z) layout_back
+      ap (λ (z : Result Places Cause). with_bodies (file_with xs ns rs) z) layout_back
       ∙ ap (λ (z : Result Unit Cause). and_then z (Ok g))
       (ap (λ (z : List ℕ). bodies_fault g.first z (note_bytes (file_with xs ns rs) g) (removed_bytes (file_with xs ns rs) g)) part_x
       ∙ (ap (λ (z : List ℕ). bodies_fault g.first xs z (removed_bytes (file_with xs ns rs) g)) part_n ∙ (ap (λ (z : List ℕ). bodies_fault g.first xs ns z) part_r ∙ e)))
@@ -274,7 +274,7 @@ even_bytes b [] = refl
 even_bytes b (c ∷ cs) = cond_even (same b c.added) c.key c.door (bytes_of b cs) (even_bytes b cs)
 
 -- the file has no fault, and its bodies are the bytes of the additions, the note, and the bytes of the removals
-pub record Parts (cs : List Change) (ns : List ℕ) (g : Layout) : Type 0 where
+pub record Parts (cs : List Change) (ns : List ℕ) (g : Places) : Type 0 where
   pub is : judged (file_of cs ns) ≡ Ok g
   pub added : added_bytes (file_of cs ns) g ≡ bytes_of true cs
   pub text : note_bytes (file_of cs ns) g ≡ ns

@@ -1,7 +1,7 @@
 -- What a judgement that found no fault says.
 use Rattle.std.proofs.Common.{◌≡◌, ℕ, ◌+◌, Bool, true, false, cond, List, length, Ok, Err, Result, sym, refl, ap, ◌∙◌, subst}
 use Rattle.faults.specs.declared.cause.Cause.{Cause}
-use Rattle.weekly.specs.declared.layout.Layout.{Layout}
+use Rattle.weekly.specs.Places.{Places}
 use Rattle.weekly.specs.Body.{and_then, pairs_fault, text_fault, both_fault, bodies_fault, added_bytes, note_bytes, removed_bytes}
 use Rattle.weekly.specs.Head.{layout_of}
 use Rattle.weekly.specs.declared.judge.Parts.{Parts}
@@ -21,12 +21,12 @@ pub cond_not : (t : Bool) (r : Result Unit Cause) (f : Cause) → cond t (Err f)
 cond_not false r f e = (refl, e)
 cond_not true r f e = cc
 
-with_ok : (f : List ℕ) (r : Result Layout Cause) (g : Layout) → with_bodies f r ≡ Ok g
+with_ok : (f : List ℕ) (r : Result Places Cause) (g : Places) → with_bodies f r ≡ Ok g
     → (r ≡ Ok g) × (bodies_fault g.first (added_bytes f g) (note_bytes f g) (removed_bytes f g) ≡ Ok tt)
 with_ok f (Ok h) g e =
     let p = then_ok (bodies_fault h.first (added_bytes f h) (note_bytes f h) (removed_bytes f h)) (Ok h) g e in
     let q : h ≡ g = cc in
-    (p.1, subst (λ (v : Layout). bodies_fault v.first (added_bytes f v) (note_bytes f v) (removed_bytes f v) ≡ Ok tt) q p.0)
+    (p.1, subst (λ (v : Places). bodies_fault v.first (added_bytes f v) (note_bytes f v) (removed_bytes f v) ≡ Ok tt) q p.0)
 with_ok f (Err x) g e = cc
 
 pub record Good (place : ℕ) (xs ns rs : List ℕ) : Type 0 where
@@ -41,12 +41,12 @@ good_from place xs ns rs e =
     let p = then_ok (pairs_fault 0 place xs) _ tt e in let q = then_ok (text_fault (place + length xs) ns) _ tt p.1 in let r = then_ok (pairs_fault 0 (place + length xs + length ns) rs) _ tt q.1 in
     record { adds = p.0; text = q.0; takes = r.0; apart = r.1 }
 
-pub judged_ok : (f : List ℕ) (g : Layout) → judged f ≡ Ok g → (layout_of f ≡ Ok g) × Good g.first (added_bytes f g) (note_bytes f g) (removed_bytes f g)
+pub judged_ok : (f : List ℕ) (g : Places) → judged f ≡ Ok g → (layout_of f ≡ Ok g) × Good g.first (added_bytes f g) (note_bytes f g) (removed_bytes f g)
 unfolding judged
 judged_ok f g e = let p = with_ok f (layout_of f) g e in (p.0, good_from g.first (added_bytes f g) (note_bytes f g) (removed_bytes f g) p.1)
 
 -- the judgement of the bodies as parts of the file
-pub judged_parts : (f : List ℕ) (p : Parts) (g : Layout) (r : Result Unit Cause) → Ok g ≡ layout_of f → laid_out p ≡ g → PartsOf f p
+pub judged_parts : (f : List ℕ) (p : Parts) (g : Places) (r : Result Unit Cause) → Ok g ≡ layout_of f → laid_out p ≡ g → PartsOf f p
     → r ≡ bodies_fault p.first p.added.now p.note.now p.removed.now → judged f ≡ and_then r (Ok (laid_out p))
 unfolding judged
 judged_parts f p g r e l o b =

@@ -3,13 +3,13 @@ use Rattle.std.proofs.Common.{◌≡◌, ℕ, zero, suc, ◌+◌, ◌*◌, ◌%�
 use Rattle.std.proofs.lemmas.List.{places, get_or-drop}
 use Rattle.std.proofs.lemmas.Bool.{cases_eq}
 use Rattle.std.proofs.lemmas.Bool.Decides.{nat_tests}
-use Rattle.weekly.specs.declared.layout.Layout.{Layout}
+use Rattle.weekly.specs.Places.{Places}
 use Rattle.weekly.specs.Head.{two_bytes, is_entry_ok, with_a_body, entries, bodies_start, bodies_end, layout_of, Sized}
 use Rattle.weekly.specs.Trip.{Bytes}
 use Rattle.weekly.proofs.Shapes.{Past, add_entry, cond_good, entries_shape}
 use Rattle.weekly.proofs.Rounds.{laid_from}
 
-pub record Kept (g : Layout) : Type 0 where
+pub record Kept (g : Places) : Type 0 where
   pub even_added : g.added % 2 ≡ 0
   pub even_removed : g.removed % 2 ≡ 0
   pub joint : g.added + g.removed ≤ 128
@@ -27,7 +27,7 @@ above prev start used letter at len e = grind (arith, nat_tests)
 removal_only : (prev start used letter at len : ℕ) → is_entry_ok prev start used letter at len ≡ true → (letter ≡ 0x41 → ⊥) → (letter ≡ 0x4E → ⊥) → letter ≡ 0x52
 removal_only prev start used letter at len e a n = grind (arith, nat_tests)
 
-module _ (g : Layout) (prev at len : ℕ) (past : Past prev g) (kept : Kept g) where
+module _ (g : Places) (prev at len : ℕ) (past : Past prev g) (kept : Kept g) where
   abbrev Right : ℕ → Type 0
   Right letter = is_entry_ok prev (bodies_end g) g.added letter at len ≡ true
 
@@ -60,7 +60,7 @@ module _ (g : Layout) (prev at len : ℕ) (past : Past prev g) (kept : Kept g) w
       (cases_eq letter 0x4E))
       (cases_eq letter 0x41)
 
-entries_kept : (k : ℕ) (bs : List ℕ) (place prev : ℕ) (got g : Layout) → Past prev got → Kept got → entries k bs place prev got ≡ Ok g → Kept g
+entries_kept : (k : ℕ) (bs : List ℕ) (place prev : ℕ) (got g : Places) → Past prev got → Kept got → entries k bs place prev got ≡ Ok g → Kept g
 unfolding entries
 entries_kept zero bs place prev got g p h e = let q : got ≡ g = cc in subst Kept q h
 entries_kept (suc k) bs place prev got g p h e =
@@ -71,12 +71,12 @@ entries_kept (suc k) bs place prev got g p h e =
 start_past : (n : ℕ) → Past 0 (bodies_start n)
 start_past n = record { adds = λ q. refl; text = λ q. refl; takes = λ q. refl }
 
-pub layout_kept : (f : List ℕ) (g : Layout) → layout_of f ≡ Ok g → Kept g
+pub layout_kept : (f : List ℕ) (g : Places) → layout_of f ≡ Ok g → Kept g
 layout_kept f g e =
     let l = laid_from f g e in
     entries_kept (get_or f 4 0) (drop 5 f) 5 0 (bodies_start (get_or f 4 0)) g (start_past (get_or f 4 0)) (record { even_added = refl; even_removed = refl; joint = omega arith; note = omega arith }) l.contents
 
-pub layout_sized : (f : List ℕ) (g : Layout) → Bytes f → layout_of f ≡ Ok g → Sized (length f) g
+pub layout_sized : (f : List ℕ) (g : Places) → Bytes f → layout_of f ≡ Ok g → Sized (length f) g
 layout_sized f g b e =
     let l = laid_from f g e in let k = layout_kept f g e in
     let n : ℕ = get_or f 4 0 in

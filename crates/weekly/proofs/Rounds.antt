@@ -6,7 +6,7 @@ use Rattle.std.proofs.lemmas.List.{places, same_lists, length-append, get_or-dro
 use Rattle.std.proofs.lemmas.Bool.{and_parts, ltb-false, eqb-true}
 use Rattle.faults.specs.declared.cause.Cause.{Cause}
 use Rattle.faults.specs.Causes.{along}
-use Rattle.weekly.specs.declared.layout.Layout.{Layout}
+use Rattle.weekly.specs.Places.{Places}
 use Rattle.weekly.specs.Head.{opening_bytes, opened, entries, bodies_start, bodies_end, ended, layout_of}
 use Rattle.weekly.specs.Body.{added_bytes, note_bytes, removed_bytes}
 use Rattle.weekly.specs.File.{entry_count, plan_of, added_entry, note_entry, removed_entry, head_of, file_with}
@@ -15,27 +15,27 @@ use Rattle.weekly.proofs.Written.{entries_length}
 use Rattle.weekly.specs.Trip.{Bytes}
 use Rattle.weekly.proofs.Shapes.{entries_of, Past, entries_shape, cond_good}
 
-cond_else : (t : Bool) (r : Result Layout Cause) (f : Cause) (g : Layout) → cond t (Err f) r ≡ Ok g → (t ≡ false) × (r ≡ Ok g)
+cond_else : (t : Bool) (r : Result Places Cause) (f : Cause) (g : Places) → cond t (Err f) r ≡ Ok g → (t ≡ false) × (r ≡ Ok g)
 cond_else false r f g e = (refl, e)
 cond_else true r f g e = cc
 
-ended_good : (n : ℕ) (r : Result Layout Cause) (g : Layout) → ended n r ≡ Ok g → (r ≡ Ok g) × (n ≡ bodies_end g)
+ended_good : (n : ℕ) (r : Result Places Cause) (g : Places) → ended n r ≡ Ok g → (r ≡ Ok g) × (n ≡ bodies_end g)
 unfolding ended
 ended_good n (Err x) g e = cc
 ended_good n (Ok h) g e =
     let c = cond_good (eqb n (bodies_end h)) (Ok h) (along 23 n) g e in
     let q : h ≡ g = cc in
-    (c.1, eqb-true n (bodies_end h) c.0 ∙ ap (λ (v : Layout). bodies_end v) q)
+    (c.1, eqb-true n (bodies_end h) c.0 ∙ ap (λ (v : Places). bodies_end v) q)
 
 -- what a layout without a fault says of its file
-pub record Laid (f : List ℕ) (g : Layout) : Type 0 where
+pub record Laid (f : List ℕ) (g : Places) : Type 0 where
   pub long : 5 + 5 * get_or f 4 0 ≤ length f
   pub few : get_or f 4 0 ≤ 3
   pub opening : take 4 f ≡ opening_bytes
   pub contents : entries (get_or f 4 0) (drop 5 f) 5 0 (bodies_start (get_or f 4 0)) ≡ Ok g
   pub end : length f ≡ bodies_end g
 
-pub laid_from : (f : List ℕ) (g : Layout) → layout_of f ≡ Ok g → Laid f g
+pub laid_from : (f : List ℕ) (g : Places) → layout_of f ≡ Ok g → Laid f g
 unfolding layout_of
 laid_from f g e =
     let a = cond_good (opened f) _ (along 21 0) g e in
@@ -48,18 +48,18 @@ laid_from f g e =
 three_parts : (f : List ℕ) (a x y z : ℕ) → a + x + y + z ≡ length f → drop a f ≡ take x (drop a f) ++ (take y (drop (a + x) f) ++ take z (drop (a + x + y) f))
 three_parts f a x y z h = same_lists _ _ (search (rules, places)) (λ k d l. grind (arith, places))
 
-abbrev laid : ℕ → ℕ → ℕ → ℕ → Layout
+abbrev laid : ℕ → ℕ → ℕ → ℕ → Places
 laid a b c d = record { first = a; added = b; note = c; removed = d }
 
-layout_is : (g : Layout) (a b c d : ℕ) → g.first ≡ a → g.added ≡ b → g.note ≡ c → g.removed ≡ d → g ≡ record { first = a; added = b; note = c; removed = d }
+layout_is : (g : Places) (a b c d : ℕ) → g.first ≡ a → g.added ≡ b → g.note ≡ c → g.removed ≡ d → g ≡ record { first = a; added = b; note = c; removed = d }
 layout_is g a b c d p q r s =
     ap (λ (z : ℕ). laid z g.added g.note g.removed) p ∙ (ap (λ (z : ℕ). laid a z g.note g.removed) q ∙ (ap (λ (z : ℕ). laid a b z g.removed) r ∙ ap (λ (z : ℕ). laid a b c z) s))
 
-regroup : (g : Layout) (xs : List ℕ) → (opening_bytes ++ (entry_count g.added g.note g.removed ∷ [])) ++ (entries_of g ++ xs) ≡ head_of g ++ xs
+regroup : (g : Places) (xs : List ℕ) → (opening_bytes ++ (entry_count g.added g.note g.removed ∷ [])) ++ (entries_of g ++ xs) ≡ head_of g ++ xs
 unfolding head_of
 regroup g xs = refl
 
-pub read_is_file : (f : List ℕ) (g : Layout) → Bytes f → layout_of f ≡ Ok g → f ≡ file_with (added_bytes f g) (note_bytes f g) (removed_bytes f g)
+pub read_is_file : (f : List ℕ) (g : Places) → Bytes f → layout_of f ≡ Ok g → f ≡ file_with (added_bytes f g) (note_bytes f g) (removed_bytes f g)
 unfolding head_of file_with
 read_is_file f g b e =
     let l = laid_from f g e in
@@ -84,4 +84,4 @@ read_is_file f g b e =
     sym (take-append-drop 5 f) ∙ (ap (λ (z : List ℕ). z ++ drop 5 f) open5 ∙ ap (λ (z : List ℕ). (opening_bytes ++ (n ∷ [])) ++ z)
     (sym (take-append-drop (5 * n) (drop 5 f)) ∙ (ap (λ (z : List ℕ). z ++ drop (5 * n) (drop 5 f)) (sym shape) ∙ ap (λ (z : List ℕ). entries_of g ++ z) bodies))) in
     whole ∙ (ap (λ (z : ℕ). (opening_bytes ++ (z ∷ [])) ++ (entries_of g ++ (added_bytes f g ++ (note_bytes f g ++ removed_bytes f g)))) (sym count)
-    ∙ (regroup g (added_bytes f g ++ (note_bytes f g ++ removed_bytes f g)) ∙ ap (λ (v : Layout). head_of v ++ (added_bytes f g ++ (note_bytes f g ++ removed_bytes f g))) (sym plan)))
+    ∙ (regroup g (added_bytes f g ++ (note_bytes f g ++ removed_bytes f g)) ∙ ap (λ (v : Places). head_of v ++ (added_bytes f g ++ (note_bytes f g ++ removed_bytes f g))) (sym plan)))

@@ -4,16 +4,16 @@ use Rattle.std.proofs.lemmas.List.{places, same_lists, append_assoc, append-nil,
 use Rattle.std.proofs.lemmas.Bool.{cases_eq, cond-true, cond-false, eq-eqb, ne_eqb}
 use Rattle.std.proofs.lemmas.Bool.Decides.{nat_tests}
 use Rattle.faults.specs.declared.cause.Cause.{Cause}
-use Rattle.weekly.specs.declared.layout.Layout.{Layout}
+use Rattle.weekly.specs.Places.{Places}
 use Rattle.weekly.specs.Head.{two_bytes, is_entry_ok, with_a_body, entries, bodies_end}
 use Rattle.weekly.specs.Trip.{Bytes}
 use Rattle.weekly.specs.File.{entry_of, added_entry, note_entry, removed_entry}
 
-abbrev pub entries_of : Layout → List ℕ
+abbrev pub entries_of : Places → List ℕ
 entries_of g = added_entry g ++ (note_entry g ++ removed_entry g)
 
 -- no body of a letter above the last
-pub record Past (prev : ℕ) (g : Layout) : Type 0 where
+pub record Past (prev : ℕ) (g : Places) : Type 0 where
   pub adds : prev < 0x41 → g.added ≡ 0
   pub text : prev < 0x4E → g.note ≡ 0
   pub takes : prev < 0x52 → g.removed ≡ 0
@@ -57,10 +57,10 @@ not_else prev start used letter at len e a n = grind (arith, nat_tests)
 joined : {p q r p' q' r' : List ℕ} → p ≡ p' → q ≡ q' → r ≡ r' → p ++ (q ++ r) ≡ p' ++ (q' ++ r')
 joined {p} {q} {r} {p'} {q'} {r'} a b c = cc
 
-abbrev pub Adds : Layout → ℕ → ℕ → ℕ → Type 0
+abbrev pub Adds : Places → ℕ → ℕ → ℕ → Type 0
 Adds g letter at len = (entries_of (with_a_body g letter len) ≡ entries_of g ++ five letter at len) × Past letter (with_a_body g letter len)
 
-add_A : (g : Layout) (at len : ℕ) → 0 < len → at ≡ bodies_end g → g.added ≡ 0 → g.note ≡ 0 → g.removed ≡ 0 → Adds g 0x41 at len
+add_A : (g : Places) (at len : ℕ) → 0 < len → at ≡ bodies_end g → g.added ≡ 0 → g.note ≡ 0 → g.removed ≡ 0 → Adds g 0x41 at len
 add_A g at len h s a n r =
     let l : g.added + len ≡ len = omega arith in
     let st : at ≡ g.first = omega arith in
@@ -74,7 +74,7 @@ add_A g at len h s a n r =
       record { adds = λ q. absurd (omega arith); text = λ q. n; takes = λ q. r },
     )
 
-add_N : (g : Layout) (at len : ℕ) → 0 < len → at ≡ bodies_end g → g.note ≡ 0 → g.removed ≡ 0 → Adds g 0x4E at len
+add_N : (g : Places) (at len : ℕ) → 0 < len → at ≡ bodies_end g → g.note ≡ 0 → g.removed ≡ 0 → Adds g 0x4E at len
 add_N g at len h s n r =
     let l : g.note + len ≡ len = omega arith in
     let st : at ≡ g.first + g.added = omega arith in
@@ -86,7 +86,7 @@ add_N g at len h s n r =
       record { adds = λ q. absurd (omega arith); text = λ q. absurd (omega arith); takes = λ q. r },
     )
 
-add_R : (g : Layout) (at len : ℕ) → 0 < len → at ≡ bodies_end g → g.removed ≡ 0 → Adds g 0x52 at len
+add_R : (g : Places) (at len : ℕ) → 0 < len → at ≡ bodies_end g → g.removed ≡ 0 → Adds g 0x52 at len
 add_R g at len h s r =
     let l : g.removed + len ≡ len = omega arith in
     let st : at ≡ g.first + g.added + g.note = omega arith in
@@ -98,7 +98,7 @@ add_R g at len h s r =
       record { adds = λ q. absurd (omega arith); text = λ q. absurd (omega arith); takes = λ q. absurd (omega arith) },
     )
 
-pub add_entry : (g : Layout) (prev letter at len : ℕ) → Past prev g → is_entry_ok prev (bodies_end g) g.added letter at len ≡ true → Adds g letter at len
+pub add_entry : (g : Places) (prev letter at len : ℕ) → Past prev g → is_entry_ok prev (bodies_end g) g.added letter at len ≡ true → Adds g letter at len
 add_entry g prev letter at len p e =
     let k = entered prev (bodies_end g) g.added letter at len e in
     ⊎_elim
@@ -110,19 +110,19 @@ add_entry g prev letter at len p e =
     (cases_eq letter 0x4E))
     (cases_eq letter 0x41)
 
-held_first : (g : Layout) (letter len : ℕ) → (with_a_body g letter len).first ≡ g.first
+held_first : (g : Places) (letter len : ℕ) → (with_a_body g letter len).first ≡ g.first
 held_first g letter len = grind (arith, nat_tests)
 
-pub cond_good : (t : Bool) (r : Result Layout Cause) (f : Cause) (g : Layout) → cond t r (Err f) ≡ Ok g → (t ≡ true) × (r ≡ Ok g)
+pub cond_good : (t : Bool) (r : Result Places Cause) (f : Cause) (g : Places) → cond t r (Err f) ≡ Ok g → (t ≡ true) × (r ≡ Ok g)
 cond_good true r f g e = (refl, e)
 cond_good false r f g e = cc
 
 -- what the entries add to a layout is what they are
-pub entries_shape : (k : ℕ) (bs : List ℕ) (place prev : ℕ) (got g : Layout) → 5 * k ≤ length bs → Bytes bs → Past prev got → entries k bs place prev got ≡ Ok g
+pub entries_shape : (k : ℕ) (bs : List ℕ) (place prev : ℕ) (got g : Places) → 5 * k ≤ length bs → Bytes bs → Past prev got → entries k bs place prev got ≡ Ok g
     → (entries_of g ≡ entries_of got ++ take (5 * k) bs) × (g.first ≡ got.first)
 unfolding entries
 entries_shape zero bs place prev got g h b p e =
-    let q : got ≡ g = cc in (sym (append-nil (entries_of got) ∙ ap (λ (v : Layout). entries_of v) q), ap (λ (v : Layout). v.first) (sym q))
+    let q : got ≡ g = cc in (sym (append-nil (entries_of got) ∙ ap (λ (v : Places). entries_of v) q), ap (λ (v : Places). v.first) (sym q))
 entries_shape (suc k) bs place prev got g h b p e =
     let letter = get_or bs 0 0 in let at = two_bytes (get_or bs 1 0) (get_or bs 2 0) in let len = two_bytes (get_or bs 3 0) (get_or bs 4 0) in
     let c = cond_good (is_entry_ok prev (bodies_end got) got.added letter at len) _ _ g e in

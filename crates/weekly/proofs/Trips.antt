@@ -6,7 +6,7 @@ use Rattle.pairs.specs.declared.change.Change.{Change}
 use Rattle.pairs.specs.Orders.{before_by_pair}
 use Rattle.table.proofs.Ups.{up_ascends}
 use Rattle.batch.specs.Changes.{in_range}
-use Rattle.weekly.specs.declared.layout.Layout.{Layout}
+use Rattle.weekly.specs.Places.{Places}
 use Rattle.weekly.specs.declared.reading.Reading.{Reading}
 use Rattle.weekly.specs.Head.{Sized}
 use Rattle.weekly.specs.Body.{first_bad_byte, byte_fault, added_bytes, note_bytes, removed_bytes}
@@ -30,7 +30,7 @@ answered a b c = Ok (record { count = a; place = b; length = c })
 -- ---- what is written is read
 pub what_is_written_is_read : WrittenIsRead
 what_is_written_is_read cs ns b n =
-    let g : Layout = plan_of (length (bytes_of true cs)) (length ns) (length (bytes_of false cs)) in
+    let g : Places = plan_of (length (bytes_of true cs)) (length ns) (length (bytes_of false cs)) in
     let p = parts_back cs ns b n in
     let count : change_count g ≡ length cs = omega (arith, sizes cs, even_bytes true cs, even_bytes false cs) in
     record {
@@ -41,11 +41,11 @@ what_is_written_is_read cs ns b n =
     }
 
 -- ---- what is read is written
-count_ok : (t : Bool) (k : ℕ) (g : Layout) (r : Reading) → cond t (Err (along 11 k)) (Ok (reading_of g)) ≡ Ok r → r.count ≡ change_count g
+count_ok : (t : Bool) (k : ℕ) (g : Places) (r : Reading) → cond t (Err (along 11 k)) (Ok (reading_of g)) ≡ Ok r → r.count ≡ change_count g
 count_ok true k g r e = cc
 count_ok false k g r e = let q : reading_of g ≡ r = cc in ap (λ (v : Reading). v.count) (sym q)
 
-room_ok : (k : ℕ) (x : Result Layout Cause) (r : Reading) → with_room k x ≡ Ok r → (g : Layout) × (x ≡ Ok g) × (r.count ≡ change_count g)
+room_ok : (k : ℕ) (x : Result Places Cause) (r : Reading) → with_room k x ≡ Ok r → (g : Places) × (x ≡ Ok g) × (r.count ≡ change_count g)
 room_ok k (Err e) r q = cc
 room_ok k (Ok g) r q = (g, refl, count_ok (ltb k (change_count g)) k g r q)
 
@@ -58,7 +58,7 @@ no_fault : (number : ℕ) (o : Option ℕ) → byte_fault number o ≡ Ok tt →
 no_fault number None e = refl
 no_fault number (Some p) e = cc
 
-module _ (f : List ℕ) (g : Layout) (bytes : Bytes f) (is : judged f ≡ Ok g) where
+module _ (f : List ℕ) (g : Places) (bytes : Bytes f) (is : judged f ≡ Ok g) where
   sized : Sized (length f) g
   sized = layout_sized f g bytes (judged_ok f g is).0
 

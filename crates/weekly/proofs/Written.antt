@@ -5,7 +5,7 @@ use Rattle.std.proofs.lemmas.Bool.{cases_Bool, cond-true, cond-false, lt-ltb, le
 use Rattle.pairs.specs.declared.change.Change.{Change}
 use Rattle.faults.specs.declared.cause.Cause.{Cause}
 use Rattle.faults.specs.Causes.{bare, along}
-use Rattle.weekly.specs.declared.layout.Layout.{Layout}
+use Rattle.weekly.specs.Places.{Places}
 use Rattle.weekly.specs.Head.{bodies_end}
 use Rattle.weekly.specs.Body.{and_then, first_bad_byte, byte_fault}
 use Rattle.weekly.specs.Marks.{bytes_of}
@@ -18,7 +18,7 @@ entry_length letter start len = ⊎_elim
     (λ (t : eqb len 0 ≡ false). ap length (cond-false _ [] _ t) ∙ sym (ap (λ (z : ℕ). 5 * z) (cond-false _ 0 1 t)))
     (cases_Bool (eqb len 0))
 
-pub head_length : (g : Layout) → length (head_of g) ≡ 5 + 5 * entry_count g.added g.note g.removed
+pub head_length : (g : Places) → length (head_of g) ≡ 5 + 5 * entry_count g.added g.note g.removed
 unfolding head_of
 head_length g =
     omega (
@@ -30,7 +30,7 @@ head_length g =
       entry_length 0x52 (g.first + g.added + g.note) g.removed,
     )
 
-pub entries_length : (g : Layout) → 5 + length (added_entry g) + length (note_entry g) + length (removed_entry g) ≡ 5 + 5 * entry_count g.added g.note g.removed
+pub entries_length : (g : Places) → 5 + length (added_entry g) + length (note_entry g) + length (removed_entry g) ≡ 5 + 5 * entry_count g.added g.note g.removed
 entries_length g =
     omega (arith, entry_length 0x41 g.first g.added, entry_length 0x4E (g.first + g.added) g.note, entry_length 0x52 (g.first + g.added + g.note) g.removed)
 
@@ -78,12 +78,12 @@ plan_room at xs ns rs x0 x1 m h w =
     let g = plan_of (length xs) (length ns) (length rs) in
     omega (arith, h, w.after, head_length g, wrote_length at (head_of g) x0 x1 m (omega (arith, h, head_length g)) w)
 
-module _ (at : ℕ) (xs ns rs x0 x1 : List ℕ) (m : ℕ) (g : Layout) (is : g ≡ plan_of (length xs) (length ns) (length rs)) (room : at + bodies_end g ≤ length x0) (head : Wrote at (head_of g) x0 x1 m) where
+module _ (at : ℕ) (xs ns rs x0 x1 : List ℕ) (m : ℕ) (g : Places) (is : g ≡ plan_of (length xs) (length ns) (length rs)) (room : at + bodies_end g ≤ length x0) (head : Wrote at (head_of g) x0 x1 m) where
   room' : at + bodies_end (plan_of (length xs) (length ns) (length rs)) ≤ length x0
-  room' = subst (λ (v : Layout). at + bodies_end v ≤ length x0) is room
+  room' = subst (λ (v : Places). at + bodies_end v ≤ length x0) is room
 
   head' : Wrote at (head_of (plan_of (length xs) (length ns) (length rs))) x0 x1 m
-  head' = subst (λ (v : Layout). Wrote at (head_of v) x0 x1 m) is head
+  head' = subst (λ (v : Places). Wrote at (head_of v) x0 x1 m) is head
 
   pub bodies_room : m + length xs + length ns + length rs ≤ length x1
   bodies_room = plan_room at xs ns rs x0 x1 m room' head'
@@ -91,10 +91,10 @@ module _ (at : ℕ) (xs ns rs x0 x1 : List ℕ) (m : ℕ) (g : Layout) (is : g �
   pub bodies_wrote : (x2 : List ℕ) (n : ℕ) → Wrote m (xs ++ (ns ++ rs)) x1 x2 n → Wrote at (file_with xs ns rs) x0 x2 n
   bodies_wrote x2 n w = file_wrote at xs ns rs x0 x1 x2 m n room' head' w
 
-pub file_end : (cs rows : List Change) (note : List ℕ) (g : Layout) (a r : ℕ) → rows ≡ cs → a ≡ length (bytes_of true rows) → r ≡ length (bytes_of false rows) → g ≡ plan_of a (length note) r
+pub file_end : (cs rows : List Change) (note : List ℕ) (g : Places) (a r : ℕ) → rows ≡ cs → a ≡ length (bytes_of true rows) → r ≡ length (bytes_of false rows) → g ≡ plan_of a (length note) r
     → length (file_of cs note) ≡ bodies_end g
 file_end cs rows note g a r e p q is =
     let p' : length (bytes_of true cs) ≡ a = sym (p ∙ ap (λ (z : List Change). length (bytes_of true z)) e) in
     let q' : length (bytes_of false cs) ≡ r = sym (q ∙ ap (λ (z : List Change). length (bytes_of false z)) e) in
     file_length (bytes_of true cs) note (bytes_of false cs) ∙ (ap (λ (z : ℕ). bodies_end (plan_of z (length note) (length (bytes_of false cs)))) p'
-    ∙ (ap (λ (z : ℕ). bodies_end (plan_of a (length note) z)) q' ∙ ap (λ (v : Layout). bodies_end v) (sym is)))
+    ∙ (ap (λ (z : ℕ). bodies_end (plan_of a (length note) z)) q' ∙ ap (λ (v : Places). bodies_end v) (sym is)))

@@ -2,7 +2,7 @@
 use Rattle.std.specs.Prelude.{ℕ, ◌+◌, ◌*◌, Bool, cond, ◌&&◌, List, [], ◌∷◌, length, take, drop, Some, None, Ok, Err, Option, Result, ◌==◌, nat_le, nat_lt}
 use Rattle.faults.specs.declared.cause.Cause.{Cause}
 use Rattle.faults.specs.Causes.{along}
-use Rattle.weekly.specs.declared.layout.Layout.{Layout}
+use Rattle.weekly.specs.Places.{Places}
 
 -- one judgement and then another: the first cause decides
 abbrev pub and_then : {X : Type 0} → Result Unit Cause → Result X Cause → Result X Cause
@@ -60,11 +60,11 @@ bodies_fault place xs ns rs =
     (and_then (pairs_fault 0 (place + length xs + length ns) rs) (both_fault (place + length xs + length ns) rs xs)))
 
 -- the bodies of a file
-abbrev pub added_bytes : List ℕ → Layout → List ℕ
+abbrev pub added_bytes : List ℕ → Places → List ℕ
 added_bytes f g = take g.added (drop g.first f)
 
-abbrev pub note_bytes : List ℕ → Layout → List ℕ
+abbrev pub note_bytes : List ℕ → Places → List ℕ
 note_bytes f g = take g.note (drop (g.first + g.added) f)
 
-abbrev pub removed_bytes : List ℕ → Layout → List ℕ
+abbrev pub removed_bytes : List ℕ → Places → List ℕ
 removed_bytes f g = take g.removed (drop (g.first + g.added + g.note) f)

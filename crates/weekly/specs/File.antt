@@ -3,7 +3,7 @@ use Rattle.std.specs.Prelude.{◌≡◌, ℕ, ◌+◌, ◌*◌, ◌/◌, ◌%◌
 use Rattle.pairs.specs.declared.change.Change.{Change}
 use Rattle.faults.specs.declared.cause.Cause.{Cause}
 use Rattle.faults.specs.Causes.{bare, along}
-use Rattle.weekly.specs.declared.layout.Layout.{Layout}
+use Rattle.weekly.specs.Places.{Places}
 use Rattle.weekly.specs.Head.{opening_bytes}
 use Rattle.weekly.specs.Body.{and_then, first_bad_byte, byte_fault}
 use Rattle.weekly.specs.Marks.{bytes_of}
@@ -21,21 +21,21 @@ abbrev pub entry_count : ℕ → ℕ → ℕ → ℕ
 entry_count a n r = present a + present n + present r
 
 -- where bodies of these lengths lie
-abbrev pub plan_of : ℕ → ℕ → ℕ → Layout
+abbrev pub plan_of : ℕ → ℕ → ℕ → Places
 plan_of a n r = record { first = 5 + 5 * entry_count a n r; added = a; note = n; removed = r }
 
 -- the entries of additions, note and removals
-abbrev pub added_entry : Layout → List ℕ
+abbrev pub added_entry : Places → List ℕ
 added_entry g = entry_of 0x41 g.first g.added
 
-abbrev pub note_entry : Layout → List ℕ
+abbrev pub note_entry : Places → List ℕ
 note_entry g = entry_of 0x4E (g.first + g.added) g.note
 
-abbrev pub removed_entry : Layout → List ℕ
+abbrev pub removed_entry : Places → List ℕ
 removed_entry g = entry_of 0x52 (g.first + g.added + g.note) g.removed
 
 -- the opening, the number of entries and the entries
-unfoldable pub head_of : Layout → List ℕ
+unfoldable pub head_of : Places → List ℕ
 head_of g = opening_bytes ++ ((entry_count g.added g.note g.removed ∷ []) ++ (added_entry g ++ (note_entry g ++ removed_entry g)))
 
 -- that, and the bodies

@@ -2,7 +2,7 @@
 use Rattle.std.specs.Prelude.{ℕ, ◌+◌, cond, Option, Some, None, ◌==◌}
 use Rattle.weekly.specs.declared.kind.Kind.{Kind}
 use Rattle.weekly.specs.declared.kind.Kind.TheVariants.{Added, Note, Removed}
-use Rattle.weekly.specs.declared.layout.Layout.{Layout}
+use Rattle.weekly.specs.Places.{Places}
 
 abbrev pub letter_of : Kind → ℕ
 letter_of Added = 0x41
@@ -18,12 +18,12 @@ last_letter None = 0
 last_letter (Some kind) = letter_of kind
 
 -- the length of the body of a kind, and where it starts
-abbrev pub len_of : Layout → Kind → ℕ
+abbrev pub len_of : Places → Kind → ℕ
 len_of g Added = g.added
 len_of g Note = g.note
 len_of g Removed = g.removed
 
-abbrev pub start_of : Layout → Kind → ℕ
+abbrev pub start_of : Places → Kind → ℕ
 start_of g Added = g.first
 start_of g Note = g.first + g.added
 start_of g Removed = g.first + g.added + g.note

@@ -1,12 +1,12 @@
 -- The bodies of a file as parts of it.
 use Rattle.std.specs.Prelude.{◌≡◌, ℕ, List, length}
 use Rattle.weekly.specs.declared.judge.Parts.{Parts}
-use Rattle.weekly.specs.declared.layout.Layout.{Layout}
+use Rattle.weekly.specs.Places.{Places}
 use Rattle.weekly.specs.Head.{Sized}
 use Rattle.weekly.specs.Body.{added_bytes, note_bytes, removed_bytes}
 
 -- the layout of the parts
-abbrev pub laid_out : Parts → Layout
+abbrev pub laid_out : Parts → Places
 laid_out p = record { first = p.first; added = length p.added.now; note = length p.note.now; removed = length p.removed.now }
 
 -- the file ends with the last of the parts, and they are what their layout says

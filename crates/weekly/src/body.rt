@@ -7,6 +7,7 @@ ghost use Rattle.weekly.specs.Pairs.{pairs_of, is_pair, above, InRange};
 ghost use Rattle.weekly.specs.Body.{pair_ok, pairs_fault, first_bad_byte, text_fault, apart_fault, both_fault, bodies_fault};
 
 use crate::judge::Parts;
+use crate::placed::Body;
 use faults::weekly::FileFault;
 use pairs::pair::Pair;
 
@@ -42,23 +43,6 @@ fn pair_ok(last: Option<Pair>, pair: Pair) -> bool
     pair.key < 64 && pair.door < 64 && last < Some(pair)
 }
 
-// The pairs of a body that starts at `place`, each above the last.
-fn ascending(body: &[u8], place: usize) -> Result<(), FileFault>
-    requires { place + length body.now < 2 ^ 32 }
-    ensures { told file_cause result ≡ pairs_fault 0 place body.now }
-{
-    let mut last = None;
-    for (i, pair) in Pairs(body).enumerate() {
-        if !pair_ok(last, pair) {
-            return Err(FileFault::Body {
-                place: place + 2 * i,
-            });
-        }
-        last = Some(pair);
-    }
-    Ok(())
-}
-
 // The index of the first byte of a note that is not 32 to 126, if there is one.
 pub(crate) fn bad_byte(note: &[u8]) -> Option<usize>
     ensures is { result ≡ first_bad_byte 0 note.now }
@@ -67,52 +51,68 @@ pub(crate) fn bad_byte(note: &[u8]) -> Option<usize>
     note.iter().position(|b| *b < 32 || *b > 126)
 }
 
-// The note, which starts at `place`.
-#[tactic(auto, using(crate::proofs::Bodies::bad_along))]
-fn text(note: &[u8], place: usize) -> Result<(), FileFault>
-    requires { place + length note.now < 2 ^ 32 }
-    ensures { told file_cause result ≡ text_fault place note.now }
-{
-    match bad_byte(note) {
-        Some(at) => Err(FileFault::Body { place: place + at }),
-        None => Ok(()),
+impl<'a> Body<'a> {
+    // Each pair is above the last.
+    fn ascending(self) -> Result<(), FileFault>
+        ensures { told file_cause result ≡ pairs_fault 0 self.entry.place self.entry.bytes.now }
+    {
+        let mut last = None;
+        for (i, pair) in Pairs(self.bytes).enumerate() {
+            if !pair_ok(last, pair) {
+                return Err(FileFault::Body {
+                    place: self.place + 2 * i,
+                });
+            }
+            last = Some(pair);
+        }
+        Ok(())
     }
-}
 
-// The index of the pair among those of a body, if it stands there.
-#[tactic(auto, using(crate::proofs::Bodies::pairs_count))]
-fn index_of(body: &[u8], pair: Pair) -> Option<usize>
-    requires { length body.now < 2 ^ 32 }
-    ensures is { result ≡ position (is_pair pair) (pairs_of body.now) }
-    ensures within { IfSome result (λ i. 2 * i < length body.now) }
-{
-    Pairs(body).position(|other| other == pair)
-}
-
-// The pair does not stand in the removals, which start at `place`.
-#[tactic(auto, using(crate::proofs::Bodies::apart_is))]
-fn apart(removed: &[u8], place: usize, pair: Pair) -> Result<(), FileFault>
-    requires { place + length removed.now < 2 ^ 32 }
-    ensures { told file_cause result ≡ apart_fault pair.key pair.door place removed.now }
-{
-    match index_of(removed, pair) {
-        Some(i) => Err(FileFault::Both {
-            place: place + 2 * i,
-        }),
-        None => Ok(()),
+    // The bytes are those of a note.
+    #[tactic(auto, using(crate::proofs::Bodies::bad_along))]
+    fn text(self) -> Result<(), FileFault>
+        ensures { told file_cause result ≡ text_fault self.entry.place self.entry.bytes.now }
+    {
+        match bad_byte(self.bytes) {
+            Some(at) => Err(FileFault::Body {
+                place: self.place + at,
+            }),
+            None => Ok(()),
+        }
     }
-}
 
-// No pair of the additions stands in the removals, which start at `place`.
-#[tactic(auto, using(crate::proofs::Bodies::both_apart))]
-fn both(added: &[u8], removed: &[u8], place: usize) -> Result<(), FileFault>
-    requires { place + length removed.now < 2 ^ 32 }
-    ensures { told file_cause result ≡ both_fault place removed.now added.now }
-{
-    for pair in Pairs(added) {
-        apart(removed, place, pair)?;
+    // The index of the pair among those of the body, if it stands there.
+    #[tactic(auto, using(crate::proofs::Bodies::pairs_count))]
+    fn index_of(self, pair: Pair) -> Option<usize>
+        ensures is { result ≡ position (is_pair pair) (pairs_of self.entry.bytes.now) }
+        ensures within { IfSome result (λ i. 2 * i < length self.entry.bytes.now) }
+    {
+        Pairs(self.bytes).position(|other| other == pair)
     }
-    Ok(())
+
+    // The pair does not stand in the body.
+    #[tactic(auto, using(crate::proofs::Bodies::apart_is))]
+    fn apart(self, pair: Pair) -> Result<(), FileFault>
+        ensures { told file_cause result ≡ apart_fault pair.key pair.door self.entry.place self.entry.bytes.now }
+    {
+        match self.index_of(pair) {
+            Some(i) => Err(FileFault::Both {
+                place: self.place + 2 * i,
+            }),
+            None => Ok(()),
+        }
+    }
+
+    // No pair of the additions stands in the body, that of the removals.
+    #[tactic(auto, using(crate::proofs::Bodies::both_apart))]
+    fn both(self, added: &[u8]) -> Result<(), FileFault>
+        ensures { told file_cause result ≡ both_fault self.entry.place self.entry.bytes.now added.now }
+    {
+        for pair in Pairs(added) {
+            self.apart(pair)?;
+        }
+        Ok(())
+    }
 }
 
 // The bodies in file order, and then the pairs that stand in both.
@@ -127,10 +127,20 @@ pub(crate) fn bodies(parts: &Parts) -> Result<(), FileFault>
         note,
         removed,
     } = *parts;
-    let note_place = first + added.len();
-    let removed_place = note_place + note.len();
-    ascending(added, first)?;
-    text(note, note_place)?;
-    ascending(removed, removed_place)?;
-    both(added, removed, removed_place)
+    let added = Body {
+        bytes: added,
+        place: first,
+    };
+    let note = Body {
+        bytes: note,
+        place: first + added.bytes.len(),
+    };
+    let removed = Body {
+        bytes: removed,
+        place: note.place + note.bytes.len(),
+    };
+    added.ascending()?;
+    note.text()?;
+    removed.ascending()?;
+    removed.both(added.bytes)
 }

@@ -11,7 +11,7 @@ use batch::lent::Draft;
 use pairs::change::Change;
 use pairs::pair::Pair;
 
-// Puts the changes of a body into a draft that takes them all.
+// Puts the changes of a body into a draft that takes them all. Their mark is a `bool`, as in a change.
 pub(crate) fn put_all(draft: &mut Draft, body: &[u8], added: bool)
     requires { TakenAll (marked added body.now) (changes draft.old) (capacity_of (memory_of draft.old)) }
     ensures changes { changes draft.new ≡ all_entered change_before (marked added body.now) (changes draft.old) }

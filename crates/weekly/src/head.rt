@@ -1,10 +1,11 @@
 // The opening and the contents.
 ghost use Rattle.std.specs.Prelude.{◌≡◌, ◌+◌, ◌*◌, ◌<◌, ◌≤◌, length, IfOk, if◌then◌else◌, None};
 ghost use Rattle.std.specs.Iterator.{YieldsFirst, item_count};
-ghost use Rattle.faults.specs.Causes.{told};
+ghost use Rattle.faults.specs.Causes.{told_as};
 ghost use Rattle.faults.specs.Faults.{file_cause};
 ghost use Rattle.weekly.specs.Entries.{entries_of};
 ghost use Rattle.weekly.specs.Kinds.{letter_of, last_letter, kind_of};
+ghost use Rattle.weekly.specs.Places.{places_of};
 ghost use Rattle.weekly.specs.Head.{opened, length_ok, is_entry_ok, entries, bodies_start, layout_of, bodies_end, Short, Sized};
 
 use crate::kind::Kind;
@@ -15,7 +16,7 @@ use faults::weekly::FileFault;
 fn opens(file: &[u8]) -> bool
     ensures { result ≡ opened file.now }
 {
-    file.len() >= 5 && &file[0..4] == b"WKL1".as_slice()
+    file.len() >= 5 && file.starts_with(b"WKL1")
 }
 
 // An entry of the contents: its letter, and where its body starts and how long it is.
@@ -54,7 +55,7 @@ impl<'a> Iterator for Entries<'a> {
 
 // The length of a body is right: of a note 1 to 200, of additions and of removals even and at least 2, and together at most 128.
 fn length_ok(kind: Kind, used: usize, len: usize) -> bool
-    requires { (used ≤ 1000) × (len < 65536) }
+    requires { (used < 65536) × (len < 65536) }
     ensures { result ≡ length_ok used (letter_of kind) len }
 {
     match kind {
@@ -67,8 +68,7 @@ fn length_ok(kind: Kind, used: usize, len: usize) -> bool
 // length is right.
 #[tactic(auto, using(crate::proofs::Heads::letter_is))]
 fn right_kind(last: Option<Kind>, layout: Layout, entry: Entry) -> Option<Kind>
-    requires { bodies_end layout ≤ 1000 }
-    ensures { result ≡ (if is_entry_ok (last_letter last) (bodies_end layout) layout.added entry.letter entry.start entry.len then kind_of entry.letter else None) }
+    ensures { result ≡ (if is_entry_ok (last_letter last) (bodies_end (places_of layout)) layout.added entry.letter entry.start entry.len then kind_of entry.letter else None) }
 {
     let kind = Kind::from_letter(entry.letter)?;
     let start = usize::from(entry.start);
@@ -83,15 +83,10 @@ fn right_kind(last: Option<Kind>, layout: Layout, entry: Entry) -> Option<Kind>
 // The layout that n entries give: the first wrong one is refused.
 fn contents(bytes: &[u8], n: usize) -> Result<Layout, FileFault>
     requires { (n ≤ 3) × (length bytes.now ≡ 5 * n) }
-    ensures is { told file_cause result ≡ entries n bytes.now 5 0 (bodies_start n) }
-    ensures short { IfOk result Short }
+    ensures is { told_as places_of file_cause result ≡ entries n bytes.now 5 0 (bodies_start n) }
+    ensures short { IfOk result (λ g. Short (places_of g)) }
 {
-    let mut layout = Layout {
-        first: 5 + 5 * n,
-        added: 0,
-        note: 0,
-        removed: 0,
-    };
+    let mut layout = Layout::empty(n);
     let mut last = None;
     for (i, entry) in Entries(bytes).enumerate() {
         let Some(kind) = right_kind(last, layout, entry) else {
@@ -106,8 +101,8 @@ fn contents(bytes: &[u8], n: usize) -> Result<Layout, FileFault>
 // The layout that the opening and the contents give, and that the file's length meets.
 #[tactic(auto, using(crate::proofs::Heads::layout_past), unfolding(crate::specs::Head::layout_of, crate::specs::Head::ended))]
 pub(crate) fn read_layout(file: &[u8]) -> Result<Layout, FileFault>
-    ensures is { told file_cause result ≡ layout_of file.now }
-    ensures sized { IfOk result (Sized (length file.now)) }
+    ensures is { told_as places_of file_cause result ≡ layout_of file.now }
+    ensures sized { IfOk result (λ g. Sized (length file.now) (places_of g)) }
 {
     if !opens(file) {
         return Err(FileFault::Opening);

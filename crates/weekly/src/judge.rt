@@ -2,6 +2,7 @@
 ghost use Rattle.std.specs.Prelude.{◌≡◌, ◌+◌, ◌≤◌, length, IfOk};
 ghost use Rattle.faults.specs.Causes.{told_as};
 ghost use Rattle.faults.specs.Faults.{file_cause};
+ghost use Rattle.weekly.specs.Places.{places_of};
 ghost use Rattle.weekly.specs.Head.{Sized};
 ghost use Rattle.weekly.specs.Parts.{laid_out, PartsOf};
 ghost use Rattle.weekly.specs.Read.{judged, place_of_note};
@@ -23,8 +24,8 @@ pub(crate) struct Parts<'a> {
 impl<'a> Parts<'a> {
     // The parts of a file that ends with the layout's last body.
     fn of(file: &'a [u8], layout: Layout) -> Parts<'a>
-        requires { Sized (length file.now) layout }
-        ensures layout { laid_out result ≡ layout }
+        requires { Sized (length file.now) (places_of layout) }
+        ensures layout { laid_out result ≡ places_of layout }
         ensures parts { PartsOf file.now result }
     {
         let (added, rest) = file[layout.first..].split_at(layout.added);

@@ -1,5 +1,6 @@
 // An output, written one piece after the other.
 ghost use Rattle.std.specs.Prelude.{◌≡◌, ◌+◌, ◌*◌, ◌<◌, ◌≤◌, true, false, ◌++◌, length};
+ghost use Rattle.weekly.specs.Places.{places_of};
 ghost use Rattle.weekly.specs.Head.{bodies_end};
 ghost use Rattle.weekly.specs.Kinds.{letter_of, len_of, start_of};
 ghost use Rattle.weekly.specs.Marks.{bytes_of};
@@ -29,9 +30,8 @@ impl<'a> Output<'a> {
 
     // The entry of a body, if there is one.
     fn put_entry(&mut self, kind: Kind, layout: Layout)
-        requires room { self.old.at + length (entry_of (letter_of kind) (start_of layout kind) (len_of layout kind)) ≤ length self.old.bytes.now }
-        requires short { bodies_end layout < 65536 }
-        ensures wrote { Wrote self.old.at (entry_of (letter_of kind) (start_of layout kind) (len_of layout kind)) self.old.bytes.now self.new.bytes.now self.new.at }
+        requires room { self.old.at + length (entry_of (letter_of kind) (start_of (places_of layout) kind) (len_of (places_of layout) kind)) ≤ length self.old.bytes.now }
+        ensures wrote { Wrote self.old.at (entry_of (letter_of kind) (start_of (places_of layout) kind) (len_of (places_of layout) kind)) self.old.bytes.now self.new.bytes.now self.new.at }
         ensures same { self.new.bytes.ghost_name ≡ self.old.bytes.ghost_name }
     {
         let len = layout.len(kind);
@@ -42,7 +42,7 @@ impl<'a> Output<'a> {
         }
     }
 
-    // The changes of one mark.
+    // The changes of one mark, a `bool` as in a change.
     fn put_marked(&mut self, rows: &[Change], added: bool)
         requires { self.old.at + length (bytes_of added rows.now) ≤ length self.old.bytes.now }
         ensures wrote { Wrote self.old.at (bytes_of added rows.now) self.old.bytes.now self.new.bytes.now self.new.at }
@@ -57,9 +57,8 @@ impl<'a> Output<'a> {
 
     // The opening, the number of entries and the entries.
     fn put_head(&mut self, layout: Layout)
-        requires room { self.old.at + 5 + length (added_entry layout) + length (note_entry layout) + length (removed_entry layout) ≤ length self.old.bytes.now }
-        requires short { bodies_end layout < 65536 }
-        ensures wrote { Wrote self.old.at (head_of layout) self.old.bytes.now self.new.bytes.now self.new.at }
+        requires room { self.old.at + 5 + length (added_entry (places_of layout)) + length (note_entry (places_of layout)) + length (removed_entry (places_of layout)) ≤ length self.old.bytes.now }
+        ensures wrote { Wrote self.old.at (head_of (places_of layout)) self.old.bytes.now self.new.bytes.now self.new.at }
         ensures same { self.new.bytes.ghost_name ≡ self.old.bytes.ghost_name }
     {
         self.put(b"WKL1");
@@ -81,9 +80,8 @@ impl<'a> Output<'a> {
 
     // The whole file.
     pub(crate) fn put_file(&mut self, layout: Layout, rows: &[Change], note: &[u8])
-        requires is { layout ≡ plan_of (length (bytes_of true rows.now)) (length note.now) (length (bytes_of false rows.now)) }
-        requires room { self.old.at + bodies_end layout ≤ length self.old.bytes.now }
-        requires short { bodies_end layout < 65536 }
+        requires is { places_of layout ≡ plan_of (length (bytes_of true rows.now)) (length note.now) (length (bytes_of false rows.now)) }
+        requires room { self.old.at + bodies_end (places_of layout) ≤ length self.old.bytes.now }
         ensures wrote { Wrote self.old.at (file_of rows.now note.now) self.old.bytes.now self.new.bytes.now self.new.at }
         ensures same { self.new.bytes.ghost_name ≡ self.old.bytes.ghost_name }
     {

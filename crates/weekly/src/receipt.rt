@@ -13,7 +13,7 @@ use faults::weekly::ReceiptFault;
 use pairs::change::Change;
 
 // Reads a file, closes the draft, and writes the batch and the file's note over the start of the output: what stands there
-// then is the file, byte for byte. The draft lies in memory of the call's own, with room for every file.
+// then is the file, byte for byte. The draft lies in memory of the call's own, an array with room for every file, so that nothing is allocated.
 pub fn receipt(file: &[u8], out: &mut [u8]) -> Result<Reading, ReceiptFault>
     ensures answer { told receipt_cause result ≡ receipt_answer file.now (length out.old) }
     ensures after { out.new ≡ (if is_ok result then over file.now out.old else out.old) }

@@ -13,7 +13,7 @@ use batch::lent::Closed;
 use faults::weekly::WriteFault;
 use pairs::change::Change;
 
-// How many bytes the changes of one mark take.
+// How many bytes the changes of one mark, a `bool` as in a change, take.
 #[tactic(auto, using(crate::proofs::Marked::bytes_length))]
 fn size(rows: &[Change], added: bool) -> usize
     requires { length rows.now ≤ 64 }

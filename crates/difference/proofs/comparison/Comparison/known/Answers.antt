@@ -7,12 +7,8 @@ either : (b : Bool) (P Q R S : Type 0) → MatchBool b P Q → (P → R) → (Q 
 either true P Q R S h f g = f h
 either false P Q R S h f g = g h
 
-pub touched_by_door-requires : goal.touched_by_door-requires
-touched_by_door-requires c =
-    record {
-      doors = c.requires.doors_to;
-      within = λ d h. below_has (length c.args.self.columns.before.now) c.args.g.doors d c.requires.group.doors_below h;
-    }
+pub touched_by_door-requires-clause-within : goal.touched_by_door-requires-clause-within
+touched_by_door-requires-clause-within c = λ d h. below_has (length c.args.self.columns.before.now) c.args.g.doors d c.requires.group.doors_below h
 
 pub returns-else-touched_by_key : goal.returns-else-touched_by_key
 returns-else-touched_by_key c =

@@ -9,28 +9,18 @@ use Rattle.difference.proofs.comparison.Comparison.put_door.Goals as goal
 pub returns-then-lost-eq0 : goal.returns-then-lost-eq0
 returns-then-lost-eq0 c = ((λ i l. refl), (door_none c.args.self.plans.same c.args.self.plans.before_turned c.args.self.plans.after_turned c.requires.door c.only-lost.ensures c.requires.held c.if-lost-eq0.true, omega (arith, c.requires.bound)))
 
-pub family-requires : goal.family-requires
-family-requires c =
-    record {
-      later = c.args.self.turned_rows;
-      key = c.requires.door;
-      apart = λ i h _. omega (arith, bit_zero i);
-      room = c.requires.held.high;
-    }
+pub family-requires-clause-apart : goal.family-requires-clause-apart
+family-requires-clause-apart c = λ i h _. omega (arith, bit_zero i)
 
 pub returns-in_err-fresh : goal.returns-in_err-fresh
 returns-in_err-fresh c =
     rw c.from_residual.ensures
     (door_full c.args.self.plans.same c.args.self.plans.before_turned c.args.self.plans.after_turned c.requires.door c.only-lost.ensures c.requires.held (length c.args.table.now / 2) c.family.new.table (omega (arith, c.requires.bound)) (omega arith) (met_at c.args.self.turned_doors c.in_err-fresh.ensures))
 
-pub sieve-last-requires : goal.sieve-last-requires
-sieve-last-requires c =
+pub sieve-last-requires-clause-drawn : goal.sieve-last-requires-clause-drawn
+sieve-last-requires-clause-drawn c =
     let o = met_at c.args.self.turned_doors c.in_ok-fresh.ensures in
-    record {
-      keys_to = omega arith;
-      doors_to = omega arith;
-      drawn = door_drawn c.args.self.plans.same c.args.self.plans.before_turned c.args.self.plans.after_turned c.requires.door c.only-lost.ensures c.requires.held c.family.new.table _ c.in_ok-fresh.fresh o (turned_mid c.family.new.table c.turn.new.groups c.args.end c.in_ok-fresh.fresh (omega arith) (omega arith) c.turn.ensures) (omega arith);
-    }
+    door_drawn c.args.self.plans.same c.args.self.plans.before_turned c.args.self.plans.after_turned c.requires.door c.only-lost.ensures c.requires.held c.family.new.table _ c.in_ok-fresh.fresh o (turned_mid c.family.new.table c.turn.new.groups c.args.end c.in_ok-fresh.fresh (omega arith) (omega arith) c.turn.ensures) (omega arith)
 
 pub returns-then-last-table : goal.returns-then-last-table
 returns-then-last-table c =

@@ -13,14 +13,10 @@ returns-in_err-fresh c =
     rw c.from_residual.ensures
     (key_full c.args.self.plans.same c.only-gained.ensures c.only-lost.ensures c.requires.held (length c.args.table.now / 2) c.family.new.table (omega (arith, c.requires.bound)) (omega arith) (met_at c.args.self.later_doors c.in_err-fresh.ensures))
 
-pub sieve-last-requires : goal.sieve-last-requires
-sieve-last-requires c =
+pub sieve-last-requires-clause-drawn : goal.sieve-last-requires-clause-drawn
+sieve-last-requires-clause-drawn c =
     let o = met_at c.args.self.later_doors c.in_ok-fresh.ensures in
-    record {
-      keys_to = omega arith;
-      doors_to = omega arith;
-      drawn = key_drawn c.args.self.plans.same c.only-gained.ensures c.only-lost.ensures c.requires.held c.family.new.table c.in_ok-fresh.fresh o;
-    }
+    key_drawn c.args.self.plans.same c.only-gained.ensures c.only-lost.ensures c.requires.held c.family.new.table c.in_ok-fresh.fresh o
 
 pub returns-then-last-table : goal.returns-then-last-table
 returns-then-last-table c =

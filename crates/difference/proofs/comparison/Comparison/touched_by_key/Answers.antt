@@ -17,12 +17,8 @@ begun c =
 pub returns-then-asked-eq0 : goal.returns-then-asked-eq0
 returns-then-asked-eq0 c = asking_none (begun (goal.at.returns-then-asked-eq0 c).After-first) c.if-asked-eq0.true
 
-pub shared-common-requires : goal.shared-common-requires
-shared-common-requires c =
-    record {
-      within = λ k h. let b = below_has (length c.args.self.rows.after.now) c.args.g.keys k c.requires.group.keys_below h in omega arith;
-      places = c.args.self.plans.doors;
-    }
+pub shared-common-requires-clause-within : goal.shared-common-requires-clause-within
+shared-common-requires-clause-within c = λ k h. let b = below_has (length c.args.self.rows.after.now) c.args.g.keys k c.requires.group.keys_below h in omega arith
 
 pub loop-k-init : goal.loop-k-init
 loop-k-init c =

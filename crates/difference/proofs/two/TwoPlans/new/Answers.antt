@@ -20,14 +20,10 @@ invariant_of-result c =
       doors = c.new-2.ensures.doors ∙ sym c.new.ensures.doors;
     }
 
-pub returns : goal.returns
-returns c =
-    let b = c.args.before.now in
-    let a = c.args.after.now in
-    let e : c.min-keys.result - 0 ≡ shared_count b a = omega arith in
-    let l : shared_count b a ≤ 64 = omega arith in
-    record {
-      before = c.new.ensures.rows ∙ first_of c.min-keys.result (shared_count b a) b e l;
-      after = c.new-2.ensures.rows ∙ first_of c.min-keys.result (shared_count b a) a e l;
-      doors = c.new.ensures.doors;
-    }
+pub returns-clause-before : goal.returns-clause-before
+returns-clause-before c =
+    c.new.ensures.rows ∙ first_of c.min-keys.result (shared_count c.args.before.now c.args.after.now) c.args.before.now (omega arith) (omega arith)
+
+pub returns-clause-after : goal.returns-clause-after
+returns-clause-after c =
+    c.new-2.ensures.rows ∙ first_of c.min-keys.result (shared_count c.args.before.now c.args.after.now) c.args.after.now (omega arith) (omega arith)

@@ -3,12 +3,12 @@ use borrow.Rule.Slice.PartMut.{mid_of}
 use Rattle.std.proofs.lemmas.List.{length-take, length-drop}
 use Rattle.search.specs.Plans.{plan_doors, plan_rows}
 use Rattle.difference.proofs.Ends.{placed_long, placed_none, placed_some, too_many, so_many}
-use Rattle.difference.proofs.writing.write_new.Goals as goal
+use Rattle.difference.proofs.between.Between.write_new.Goals as goal
 
 pub returns-in_err-end : goal.returns-in_err-end
 returns-in_err-end c =
-    let b = c.args.before.now in
-    let a = c.args.after.now in
+    let b = c.args.self.before.now in
+    let a = c.args.self.after.now in
     let T = c.args.table.now in
     let p = c.list_new.new.table in
     let start = c.min-start.result in
@@ -24,8 +24,8 @@ returns-in_err-end c =
 
 pub returns : goal.returns
 returns c =
-    let b = c.args.before.now in
-    let a = c.args.after.now in
+    let b = c.args.self.before.now in
+    let a = c.args.self.after.now in
     let T = c.args.table.now in
     let p = c.list_new.new.table in
     let start = c.min-start.result in

@@ -1,12 +1,12 @@
 use Rattle.std.proofs.Common.{length, sym, ap, ◌∙◌}
 use Rattle.difference.specs.Changes.{Compared}
 use Rattle.difference.proofs.Compares.{columns_long, compared}
-use Rattle.difference.proofs.writing.compare.Goals as goal
-use Rattle.difference.proofs.writing.compare.Goals.{After-columns-2}
+use Rattle.difference.proofs.between.Between.compare.Goals as goal
+use Rattle.difference.proofs.between.Between.compare.Goals.{After-columns-2}
 
 both : (c : After-columns-2) → Compared c.rows.result.now c.columns.result.now c.rows-2.result.now c.columns-2.result.now
 both c =
-    compared c.args.before.now c.args.after.now _ _ _ _ c.rows.ensures c.columns.ensures c.rows-2.ensures c.columns-2.ensures c.requires.keys c.requires.doors
+    compared c.args.self.before.now c.args.self.after.now _ _ _ _ c.rows.ensures c.columns.ensures c.rows-2.ensures c.columns-2.ensures c.args.self.keys c.args.self.doors
 
 pub invariant_of-columns : goal.invariant_of-columns
 invariant_of-columns c =
@@ -22,10 +22,7 @@ invariant_of-result c =
       plans = both (goal.at.invariant_of-result c).After-columns-2;
       marked = c.changed-changed.ensures;
       later_rows = sym c.rows-2.ensures;
-      later_doors = c.requires.doors ∙ sym (columns_long c.args.before.now _ _ c.rows.ensures c.columns.ensures);
+      later_doors = c.args.self.doors ∙ sym (columns_long c.args.self.before.now _ _ c.rows.ensures c.columns.ensures);
       turned_rows = c.requires.turned_rows ∙ sym c.columns-2.ensures;
-      turned_doors = c.requires.turned_doors ∙ c.requires.keys ∙ sym (ap length c.rows.ensures);
+      turned_doors = c.requires.turned_doors ∙ c.args.self.keys ∙ sym (ap length c.rows.ensures);
     }
-
-pub returns : goal.returns
-returns c = record { before = c.rows.ensures; after = c.rows-2.ensures; doors = columns_long c.args.before.now _ _ c.rows.ensures c.columns.ensures }

@@ -1,17 +1,10 @@
-use Rattle.std.proofs.Common.{◌-◌, ◌/◌, ℕ, length, Some, None, arith}
+use Rattle.std.proofs.Common.{◌-◌, ◌/◌, ℕ, length, Some, arith}
 use Rattle.std.specs.List.{between}
 use Rattle.groups.specs.Plans.{New}
 use Rattle.difference.specs.Places.{Listed}
 use Rattle.difference.proofs.Ends.{relisted}
 use Rattle.difference.proofs.Sorting.{part_held, shuffled_held, listing_from}
-use Rattle.difference.proofs.writing.list_new.Goals as goal
-
-pub returns-in_err-end : goal.returns-in_err-end
-returns-in_err-end c =
-    let h = c.in_err-end.ensures in
-    let e = c.compare.ensures in
-    rw c.from_residual.ensures
-    (relisted None e.before e.after e.doors (record { kept = h.0; result = h.1 }))
+use Rattle.difference.proofs.between.Between.list_new.Goals as goal
 
 pub returns : goal.returns
 returns c =
