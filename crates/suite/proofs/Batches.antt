@@ -150,25 +150,3 @@ module _ (keys doors : ℕ) (rows : List ℕ) (cs : List Change) (u : Ascends be
   batch_addable spare l = addable_up keys doors cs (removals_out cs rows) spare (pairs_up cs u) (free_of keys doors rows cs cs (faultless keys doors rows 0 cs e)) l
 
 -- ---- one turn over the changes of a batch: what is said of the first is had, and the rest follows
-
-by_addition : (b : Bool) (A R : Type 0) → b ≡ true → by_mark b A R → A
-by_addition true A R e p = p
-by_addition false A R e p = absurd (true≢false (sym e))
-
-by_removal : (b : Bool) (A R : Type 0) → b ≡ false → by_mark b A R → R
-by_removal true A R e p = absurd (true≢false e)
-by_removal false A R e p = p
-
-module _ (keys doors : ℕ) (c : Change) (cs : List Change) (rows : List ℕ) where
-  pub removal_turn : c.added ≡ false → Removable keys doors (c ∷ cs) rows → (withdraw_answer keys doors rows c.key c.door ≡ Ok tt) × Removable keys doors cs (withdrawn c rows)
-  removal_turn e r = by_removal c.added (Removable keys doors cs rows) ((withdraw_answer keys doors rows c.key c.door ≡ Ok tt) × Removable keys doors cs (withdrawn c rows)) e r
-
-  pub addition_passed : c.added ≡ true → Removable keys doors (c ∷ cs) rows → Removable keys doors cs rows
-  addition_passed e r = by_addition c.added (Removable keys doors cs rows) ((withdraw_answer keys doors rows c.key c.door ≡ Ok tt) × Removable keys doors cs (withdrawn c rows)) e r
-
-  module _ (spare : ℕ) where
-    pub addition_turn : c.added ≡ true → Addable keys doors (c ∷ cs) rows spare → (permit_answer keys doors rows spare c.key c.door ≡ Ok tt) × Addable keys doors cs (permitted c rows) (spare - 1)
-    addition_turn e r = by_addition c.added ((permit_answer keys doors rows spare c.key c.door ≡ Ok tt) × Addable keys doors cs (permitted c rows) (spare - 1)) (Addable keys doors cs rows spare) e r
-
-    pub removal_passed : c.added ≡ false → Addable keys doors (c ∷ cs) rows spare → Addable keys doors cs rows spare
-    removal_passed e r = by_removal c.added ((permit_answer keys doors rows spare c.key c.door ≡ Ok tt) × Addable keys doors cs (permitted c rows) (spare - 1)) (Addable keys doors cs rows spare) e r

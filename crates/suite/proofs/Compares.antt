@@ -1,15 +1,14 @@
 -- The plan before and after a batch.
-use Rattle.std.proofs.Common.{◌≡◌, ℕ, ◌+◌, ◌-◌, ◌≤◌, min, false, cond, ltb, List, length, take, Some, None, sym, ap, ◌∙◌, arith}
+use Rattle.std.proofs.Common.{◌≡◌, ℕ, ◌-◌, ◌≤◌, min, List, length, take, None, sym, ap, ◌∙◌, arith}
 use Rattle.std.proofs.lemmas.List.{take_all, length-take-le}
-use Rattle.faults.specs.Causes.{bare}
 use Rattle.pairs.specs.declared.change.Change.{Change}
 use Rattle.groups.specs.Lists.{carried_out}
 use Rattle.difference.specs.declared.two.TwoPlans.{TwoPlans}
 use Rattle.difference.specs.Both.{before_rows, after_rows, two_doors}
 use Rattle.difference.specs.Changes.{shared_count}
-use Rattle.ledger.specs.Ledger.{additions, removals, first_of, changes_fault, unless}
+use Rattle.ledger.specs.Ledger.{changes_fault, unless}
 use Rattle.ledger.proofs.Refusals.{unless_ok}
-use Rattle.suite.specs.Steps.{plan_fault, Compares}
+use Rattle.suite.specs.Steps.{Compares}
 use Rattle.suite.proofs.Turns.{fine}
 
 pub compares : (rows after : List ℕ) (doors : ℕ) (cs : List Change) (t : TwoPlans) → length rows ≤ 64 → doors ≤ 64 → length after ≡ length rows → after ≡ carried_out cs rows
@@ -38,8 +37,3 @@ module _ (keys doors places k d s : ℕ) (rows table : List ℕ) (cs : List Chan
   module _ (a : fine ≡ unless (changes_fault (length table) d table 0 cs) fine) where
     pub faultless : changes_fault keys doors rows 0 cs ≡ None
     faultless = sym fault_same ∙ (unless_ok (changes_fault (length table) d table 0 cs) fine tt (sym a)).0
-
-    pub plan_fine : false ≡ ltb (s + removals cs) (additions cs) → plan_fault keys doors rows places cs ≡ None
-    plan_fine b =
-        ap (λ z. first_of z (cond (ltb (places + removals cs) (additions cs)) (Some (bare 17)) None)) faultless
-        ∙ ap (λ z. cond z (Some (bare 17)) None) (ap (λ z. ltb (z + removals cs) (additions cs)) (sym ss) ∙ sym b)

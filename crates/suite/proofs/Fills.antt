@@ -1,5 +1,5 @@
 -- Changes put into a draft one after the other.
-use Rattle.std.proofs.Common.{◌≡◌, ℕ, ◌+◌, ◌<◌, ◌≤◌, Bool, cond, List, [], ◌∷◌, length, get_or, drop, None, Ok, Err, Option, Result, sym, ap, ◌∙◌, arith, length-append, length-drop}
+use Rattle.std.proofs.Common.{◌≡◌, ℕ, ◌+◌, ◌<◌, ◌≤◌, Bool, cond, List, [], ◌∷◌, length, get_or, drop, Ok, Option, Result, sym, ap, ◌∙◌, arith, length-append, length-drop}
 use Rattle.std.proofs.lemmas.List.{at_drop_more}
 use Rattle.std.proofs.lemmas.Bool.{cond_both}
 use Rattle.std.proofs.lemmas.Bool.Decides.{nat_tests}
@@ -11,8 +11,6 @@ use Rattle.batch.specs.Changes.{capacity_of, filled, put_answer}
 use Rattle.groups.specs.declared.group.Group.{Group}
 use Rattle.ledger.specs.Ledger.{Ledger, first_of, unless, arising, lapsing, book_answer}
 use Rattle.ledger.specs.Calls.{refusal, puts_fault, batch_of, booked_if, over_if}
-use Rattle.ledger.proofs.Refusals.{unless_ok}
-use Rattle.suite.specs.Law.{Booked}
 use Rattle.suite.proofs.Turns.{blank, fine}
 
 -- a list grows by at most one
@@ -50,11 +48,6 @@ module _ (capacity : ℕ) (list cs : List Change) (i : ℕ) (h : i < length list
       ap (λ z. puts_fault capacity z (drop (i + 1) list)) e
       ∙ ap (λ z. first_of (refusal z) (puts_fault capacity (entered change_before (get_or list i blank) cs) (drop (i + 1) list))) a ∙ sym step ∙ inv
 
-  pub puts_refused : (f : Cause) (start : Option Cause) → ◌≡◌ {A = Result Unit Cause} (Err f) (put_answer cs capacity (get_or list i blank))
-      → puts_fault capacity cs (drop i list) ≡ start → ◌≡◌ {A = Result Unit Cause} (Err f) (unless start fine)
-  puts_refused f start a inv =
-      sym (ap (λ z. unless z fine) (sym inv ∙ step ∙ ap (λ z. first_of (refusal z) (puts_fault capacity (entered change_before (get_or list i blank) cs) (drop (i + 1) list))) (sym a)))
-
   pub entered_more : (cs' all : List Change) → cs' ≡ entered change_before (get_or list i blank) cs → all_entered change_before (drop i list) cs ≡ all → all_entered change_before (drop (i + 1) list) cs' ≡ all
   entered_more cs' all e inv = ap (all_entered change_before (drop (i + 1) list)) e ∙ sym (at_drop_more (λ z. all_entered change_before z cs) list i blank h) ∙ inv
 
@@ -63,18 +56,5 @@ module _ (L L' : Ledger) (list batch start : List Change) (capacity : ℕ) (new 
     (none : start ≡ []) (sixty-four : capacity ≡ 64) (a : fine ≡ unless (puts_fault capacity start list) fine) (b : batch ≡ all_entered change_before list start)
     (answer : r ≡ book_answer L batch (length new) (length lapsed)) (after : L' ≡ booked_if r L batch)
     (n : new' ≡ over_if r (arising L batch) new) (l : lapsed' ≡ over_if r (lapsing L batch) lapsed) where
-  free : puts_fault 64 [] list ≡ None
-  free =
-      (unless_ok (puts_fault 64 [] list) fine tt
-      (ap (λ z. unless (puts_fault 64 z list) fine) (sym none) ∙ ap (λ z. unless (puts_fault z start list) fine) (sym sixty-four) ∙ sym a)).0
-
   is : batch ≡ batch_of list
   is = b ∙ ap (all_entered change_before list) none
-
-  pub changes_booked : Booked L L' list new new' lapsed lapsed' r
-  changes_booked = record {
-    answer = answer ∙ ap (λ z. book_answer L z (length new) (length lapsed)) is ∙ sym (ap (λ z. unless z (book_answer L (batch_of list) (length new) (length lapsed))) free);
-    after_it = after ∙ ap (booked_if r L) is;
-    new_list = n ∙ ap (λ z. over_if r (arising L z) new) is;
-    lapsed_list = l ∙ ap (λ z. over_if r (lapsing L z) lapsed) is;
-  }

@@ -1,7 +1,7 @@
 -- The groups of a plan at the front of a table, and entered into an empty register.
 use Rattle.std.proofs.Common.{◌≡◌, ℕ, ◌+◌, ◌<◌, ◌≤◌, min, cond, ltb, leb, List, ◌++◌, length, take, drop, Some, None, Ok, Err, Option, sym, refl, ap, ◌∙◌, arith, MatchOption}
 use Rattle.std.proofs.lemmas.List.{take_all, take-take, take_at}
-use Rattle.std.proofs.lemmas.Bool.{cond-true, cond-false, lt-ltb, le-ltb, le-leb}
+use Rattle.std.proofs.lemmas.Bool.{cond-true, cond-false, le-ltb, le-leb}
 use Rattle.std.proofs.lemmas.Bool.Decides.{nat_tests}
 use Rattle.faults.specs.Causes.{bare}
 use Rattle.groups.specs.declared.group.Group.{Group}
@@ -51,11 +51,6 @@ module _ (L : Ledger) (empty : length L.held ≡ 0) where
   abbrev all : List Group
   all = groups_of L.rows L.doors
 
-  pub too_many : L.spare < length all → Err (bare 13) ≡ found_answer L
-  too_many h =
-      sym (cond-false (ltb 0 (length L.held)) (Err (bare 12)) (cond (ltb L.spare (length all)) (Err (bare 13)) (Ok (length all))) (le-ltb 0 (length L.held) (omega arith))
-      ∙ cond-true (ltb L.spare (length all)) (Err (bare 13)) (Ok (length all)) (lt-ltb L.spare (length all) h))
-
   module _ (fits : length all ≤ L.spare) where
     pub all_fit : Ok (length all) ≡ found_answer L
     all_fit =
@@ -73,9 +68,6 @@ module _ (L : Ledger) (empty : length L.held ≡ 0) where
   module _ (T : List Group) (rows : List ℕ) (doors : ℕ) (long : length T ≡ L.spare) (r : rows ≡ L.rows) (d : doors ≡ L.doors) where
     pub copied_groups : groups_of rows doors ≡ all
     copied_groups = ap (λ z. groups_of z doors) r ∙ ap (groups_of L.rows) d
-
-    pub not_fitting : length T < length (groups_of rows doors) → L.spare < length all
-    not_fitting h = let e = ap length copied_groups in omega arith
 
     pub fitting : (n : ℕ) → n ≡ length (groups_of rows doors) → n ≤ length T → length all ≤ L.spare
     fitting n e h = let q = ap length copied_groups in omega arith

@@ -1,13 +1,11 @@
 -- What a booking answers, cause by cause, and what it leaves.
-use Rattle.std.proofs.Common.{◌≡◌, ℕ, ◌+◌, ◌-◌, ◌<◌, ◌≤◌, Bool, true, false, cond, ltb, List, length, take, is_ok, Some, None, Ok, Err, Option, Result, sym, refl, ap, ◌∙◌, subst, arith, length-take, get_or-take}
-use Rattle.std.proofs.lemmas.Bool.{cond-true, cond-false, true≢false, ltb-false, le-ltb}
+use Rattle.std.proofs.Common.{◌≡◌, ℕ, ◌+◌, ◌-◌, ◌≤◌, Bool, true, false, cond, ltb, List, length, is_ok, Some, None, Ok, Err, Option, Result, sym, refl, ap, ◌∙◌, subst, arith}
+use Rattle.std.proofs.lemmas.Bool.{cond-true, cond-false, true≢false, ltb-false}
 use Rattle.faults.specs.declared.cause.Cause.{Cause}
 use Rattle.faults.specs.declared.suite.SuiteFault.{SuiteFault}
 use Rattle.faults.specs.Causes.{bare, told}
 use Rattle.faults.specs.Faults.{suite_cause}
 use Rattle.pairs.specs.declared.change.Change.{Change}
-use Rattle.pairs.specs.Orders.{before_by_pair}
-use Rattle.table.specs.Rows.{Ascends}
 use Rattle.table.specs.Sets.{all_entered, all_struck}
 use Rattle.groups.specs.declared.group.Group.{Group}
 use Rattle.groups.specs.Orders.{group_before}
@@ -20,7 +18,6 @@ use Rattle.ledger.specs.Laws.{AscendingGroups}
 use Rattle.ledger.proofs.Bookings.{arising_ascends, lapsing_ascends}
 use Rattle.suite.specs.Bookings.{Booking, Ready, Fits}
 use Rattle.suite.specs.Steps.{plan_fault, coming, going, lists_answer, Roomy, Compares, Addable}
-use Rattle.ledger.proofs.Refusals.{past}
 use Rattle.suite.proofs.Batches.{batch_addable}
 use Rattle.suite.proofs.Runs.{follow_held, follow_spare}
 use Rattle.suite.proofs.Turns.{first_none}
@@ -187,27 +184,6 @@ module _ (L : Ledger) (batch : List Change) (coming going new lapsed : List Grou
 
 -- ---- the lists as they stand in a table
 
-module _ (new lapsed : List Group) (a b : ℕ) (p : ℕ × ℕ) (e : Ok p ≡ lists_answer a b new lapsed) where
-  within : (ltb a (length new) ≡ false) × (◌≡◌ {A = Counts} (cond (ltb b (length lapsed)) (Err (bare 19)) (Ok (length new, length lapsed))) (Ok p))
-  within = past (ltb a (length new)) (bare 18) (cond (ltb b (length lapsed)) (Err (bare 19)) (Ok (length new, length lapsed))) p (sym e)
-
-  within_lapsed : (ltb b (length lapsed) ≡ false) × (◌≡◌ {A = Counts} (Ok (length new, length lapsed)) (Ok p))
-  within_lapsed = past (ltb b (length lapsed)) (bare 19) (Ok (length new, length lapsed)) p within.1
-
-  pub limit_new : length new ≤ a
-  limit_new = ltb-false a (length new) within.0
-
-  pub limit_lapsed : length lapsed ≤ b
-  limit_lapsed = ltb-false b (length lapsed) within_lapsed.0
-
-  pub lists_more : (a' b' : ℕ) → a ≤ a' → b ≤ b' → Ok p ≡ lists_answer a' b' new lapsed
-  lists_more a' b' h k =
-      let x = limit_new in
-      let y = limit_lapsed in
-      sym within_lapsed.1
-      ∙ sym (cond-false (ltb b' (length lapsed)) (Err (bare 19)) (Ok (length new, length lapsed)) (le-ltb b' (length lapsed) (omega arith)))
-      ∙ sym (cond-false (ltb a' (length new)) (Err (bare 18)) (cond (ltb b' (length lapsed)) (Err (bare 19)) (Ok (length new, length lapsed))) (le-ltb a' (length new) (omega arith)))
-
 module _ (L : Ledger) (batch : List Change) (t : TwoPlans) (c : Compares L.doors L.rows batch t) where
   pub coming_is : coming t ≡ arising L batch
   coming_is =
@@ -222,25 +198,9 @@ module _ (L : Ledger) (batch : List Change) (t : TwoPlans) (c : Compares L.doors
   pub lists_of : (a b : ℕ) → lists_answer a b (coming t) (going t) ≡ lists_answer a b (arising L batch) (lapsing L batch)
   lists_of a b = ap (λ z. lists_answer a b z (going t)) coming_is ∙ ap (λ z. lists_answer a b (arising L batch) z) going_is
 
-  -- found within limits that do not exceed what the lists count for
-  pub found_fits : (nl ll a b : ℕ) (new lapsed : List Group) → (Ok (length new, length lapsed) ≡ lists_answer a b (coming t) (going t)) × (new ≡ coming t) × (lapsed ≡ going t)
-      → a ≤ list_capacity nl → b ≤ list_capacity ll → Fits L batch nl ll new lapsed
-  found_fits nl ll a b new lapsed f h k = record {
-    coming = f.1 ∙ coming_is;
-    going = f.2 ∙ going_is;
-    counted = lists_more (coming t) (going t) a b (length new, length lapsed) f.0 (list_capacity nl) (list_capacity ll) h k ∙ lists_of (list_capacity nl) (list_capacity ll);
-  }
-
 -- a refusal as a call tells it
 pub refused_told : (L : Ledger) (batch : List Change) (new lapsed : List Group) (r : Result (ℕ × ℕ) SuiteFault) (f : SuiteFault) → r ≡ Err f → Err (suite_cause f) ≡ book_answer L batch (length new) (length lapsed) → Booking L L batch new new lapsed lapsed (told suite_cause r)
 refused_told L batch new lapsed r f e a = subst (λ z. Booking L L batch new new lapsed lapsed (told suite_cause z)) (sym e) (refused L batch new lapsed (suite_cause f) a)
-
--- what the first rows of a memory have in order, the list of them has
-pub front_ascends : (memory : List Change) (n : ℕ) → n ≤ length memory → Ascends before_by_pair memory n → Ascends before_by_pair (take n memory) (length (take n memory))
-front_ascends memory n h a k d l =
-    let l1 : k + 1 < n = omega (arith, length-take n memory) in
-    let l0 : k < n = omega arith in
-    rw (get_or-take, get_or-take) (a k d l1)
 
 -- the large table has room for all that two lists count for
 pub large_room : (a b : ℕ) (T : List Group) → length T ≡ 196608 → a ≤ 65536 → b ≤ 65536 → Roomy (length T) a b

@@ -1,49 +1,22 @@
 -- One call, and one turn of a loop that makes each call in its place.
-use Rattle.std.proofs.Common.{◌≡◌, ℕ, ◌+◌, ◌<◌, ◌≤◌, List, [], ◌∷◌, ◌++◌, map, length, get_or, take, drop, set, Some, Option, Result, sym, ap, ◌∙◌, subst, append_assoc, arith}
-use Rattle.std.proofs.lemmas.List.{take_more_set, drop_more, drop-set-lt, map_push, take_all, drop_all, append-nil}
-use Rattle.faults.specs.declared.cause.Cause.{Cause}
-use Rattle.pairs.specs.declared.change.Change.{Change}
-use Rattle.groups.specs.declared.group.Group.{Group}
-use Rattle.ledger.specs.Ledger.{Ledger, arising, lapsing}
-use Rattle.ledger.specs.Calls.{Seen, booking, batch_of, booked_if, over_if, next, reply, after, replies}
+use Rattle.std.proofs.Common.{◌≡◌, ℕ, ◌+◌, ◌<◌, ◌≤◌, List, [], ◌∷◌, ◌++◌, map, length, get_or, take, drop, set, sym, ap, ◌∙◌, subst, arith}
+use Rattle.std.proofs.lemmas.List.{take_more_set, drop-set-lt, map_push, take_all, drop_all, append-nil}
+use Rattle.ledger.specs.Ledger.{Ledger}
+use Rattle.ledger.specs.Calls.{Seen, next, reply, after, replies}
 use Rattle.ledger.specs.Copies.{copied, SoundCopy, booked_batches, all_carried_out, changed_groups}
 use Rattle.ledger.specs.Laws.{AscendingGroups, InStep}
 use Rattle.ledger.proofs.Follows.{follows}
 use Rattle.suite.specs.declared.calls.Call.{Call}
-use Rattle.suite.specs.Law.{Kept, Booked}
+use Rattle.suite.specs.Law.{Kept}
 use Rattle.suite.specs.Seen.{seen}
-
-module _ (L L' : Ledger) (cs : List Change) (new new' lapsed lapsed' : List Group) (r : Result (ℕ × ℕ) Cause) (a : Option (Result (ℕ × ℕ) Cause)) (b : Booked L L' cs new new' lapsed lapsed' r) where
-  pub booked_next : L' ≡ next L (booking cs new lapsed a)
-  booked_next = b.after_it ∙ ap (λ z. booked_if z L (batch_of cs)) b.answer
-
-  pub booked_reply : booking cs new' lapsed' (Some r) ≡ reply L (booking cs new lapsed a)
-  booked_reply =
-      ap (λ z. booking cs z lapsed' (Some r)) b.new_list ∙ ap (λ z. booking cs (over_if r (arising L (batch_of cs)) new) z (Some r)) b.lapsed_list
-      ∙ ap (λ z. booking cs (over_if z (arising L (batch_of cs)) new) (over_if z (lapsing L (batch_of cs)) lapsed) (Some z)) b.answer
 
 module _ (L L' : Ledger) (cs : List Call) (i : ℕ) (d y : Call) (h : i < length cs)
     (moved : L' ≡ next L (seen (get_or cs i d))) (replied : seen y ≡ reply L (seen (get_or cs i d))) where
-  here : drop i cs ≡ get_or cs i d ∷ drop (i + 1) cs
-  here = drop_more cs i d h
-
   rest : drop (i + 1) (set cs i y) ≡ drop (i + 1) cs
   rest = let w : i < i + 1 = omega arith in drop-set-lt (i + 1) cs i y w
 
-  pub after_more : after L' (map seen (drop (i + 1) (set cs i y))) ≡ after L (map seen (drop i cs))
-  after_more = ap (λ z. after L' (map seen z)) rest ∙ ap (λ z. after z (map seen (drop (i + 1) cs))) moved ∙ sym (ap (λ z. after L (map seen z)) here)
-
   front : map seen (take (i + 1) (set cs i y)) ≡ map seen (take i cs) ++ (seen y ∷ [])
   front = ap (map seen) (take_more_set cs i y h) ∙ map_push seen (take i cs) y
-
-  pub replies_more : map seen (take (i + 1) (set cs i y)) ++ replies L' (map seen (drop (i + 1) (set cs i y))) ≡ map seen (take i cs) ++ replies L (map seen (drop i cs))
-  replies_more =
-      ap (λ z. map seen (take (i + 1) (set cs i y)) ++ replies L' (map seen z)) rest
-      ∙ ap (λ z. z ++ replies L' (map seen (drop (i + 1) cs))) front
-      ∙ append_assoc (map seen (take i cs)) (seen y ∷ []) (replies L' (map seen (drop (i + 1) cs)))
-      ∙ ap (λ z. map seen (take i cs) ++ (z ∷ replies L' (map seen (drop (i + 1) cs)))) replied
-      ∙ ap (λ z. map seen (take i cs) ++ (reply L (seen (get_or cs i d)) ∷ replies z (map seen (drop (i + 1) cs)))) moved
-      ∙ sym (ap (λ z. map seen (take i cs) ++ replies L (map seen z)) here)
 
 module _ (L : Ledger) (cs : List Call) (i : ℕ) (h : length cs ≤ i) where
   pub after_all : after L (map seen (drop i cs)) ≡ L

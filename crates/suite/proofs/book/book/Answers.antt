@@ -1,12 +1,10 @@
-use Rattle.std.proofs.Common.{length, Some, sym, ap, ◌∙◌, subst}
+use Rattle.std.proofs.Common.{length, Some, sym, ap, ◌∙◌}
 use Rattle.std.proofs.lemmas.Result.{err_from_is_err_and}
 use Rattle.faults.specs.Faults.{suite_cause}
 use Rattle.batch.specs.Drafts.{closed_changes}
-use Rattle.pairs.specs.Orders.{before_by_pair}
-use Rattle.table.specs.Rows.{Ascends}
 use Rattle.suite.specs.Of.{ledger}
 use Rattle.suite.specs.Steps.{plan_fault}
-use Rattle.suite.proofs.Judged.{refused_told, plan_refuses, front_ascends}
+use Rattle.suite.proofs.Judged.{refused_told, plan_refuses}
 use Rattle.suite.proofs.book.book.Goals as goal
 
 pub returns-in_err-plans : goal.returns-in_err-plans
@@ -20,14 +18,3 @@ returns-in_err-plans g c =
     (plan_refuses L cs (length new) (length lapsed) (suite_cause p.0)
     (ap (plan_fault L.keys L.doors L.rows L.places) (sym c.changes-changes.ensures) ∙ c.in_err-plans.ensures ∙ ap (λ z. Some (suite_cause z)) (sym p.2))) in
     record { answer = b.answer; after = b.after; new = b.new_list; lapsed = b.lapsed_list }
-
-pub book_compared-requires : goal.book_compared-requires
-book_compared-requires g c =
-    let b = c.args.batch.now in
-    record {
-      ready = record {
-        ascends = subst (λ z. Ascends before_by_pair z (length z)) (sym c.changes-changes.ensures) (front_ascends b.rows.memory.now b.rows.count b.rows.within b.rows.ascends);
-        fine = c.in_ok-plans.ensures.0;
-      };
-      compares = c.in_ok-plans.ensures.1;
-    }

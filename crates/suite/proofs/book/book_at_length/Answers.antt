@@ -5,7 +5,7 @@ use Rattle.faults.specs.Faults.{suite_cause}
 use Rattle.ledger.specs.Ledger.{list_capacity, arising, lapsing}
 use Rattle.suite.specs.Of.{ledger}
 use Rattle.suite.specs.Steps.{lists_answer}
-use Rattle.suite.proofs.Judged.{refused_told, lists_refused, lists_of, large_room, found_fits}
+use Rattle.suite.proofs.Judged.{refused_told, lists_refused, lists_of, large_room}
 use Rattle.suite.proofs.book.book_at_length.Goals as goal
 
 pub returns-in_err-found : goal.returns-in_err-found
@@ -22,14 +22,3 @@ returns-in_err-found g c =
     (ap (λ z. Err (suite_cause z)) p.2 ∙ c.in_err-found.ensures.answer (large_room c.min.result c.min-2.result (replicate 196608 c.default-table.result) (length-replicate 196608 c.default-table.result) (omega (arith, c.min.ensures)) (omega (arith, c.min-2.ensures)))
     ∙ lists_of L cs c.args.plans.now c.requires.compares c.min.result c.min-2.result
     ∙ ap (λ z. lists_answer z c.min-2.result (arising L cs) (lapsing L cs)) a ∙ ap (λ z. lists_answer (list_capacity (length new)) z (arising L cs) (lapsing L cs)) b))
-
-pub settle-requires : goal.settle-requires
-settle-requires g c =
-    let L = ledger g.P.ReadPlan g.P.ChangePlan g.R.Register c.args.plan.now c.args.register.now in
-    let new = c.args.new.now in
-    let lapsed = c.args.lapsed.now in
-    let f = c.in_ok-found.found in
-    record {
-      ready = c.requires.ready;
-      fits = found_fits L c.args.changes.now c.args.plans.now c.requires.compares (length new) (length lapsed) c.min.result c.min-2.result f.coming.now f.going.now c.in_ok-found.ensures.found (omega (arith, c.min.ensures)) (omega (arith, c.min-2.ensures));
-    }

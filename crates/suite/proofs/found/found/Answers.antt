@@ -1,26 +1,9 @@
-use Rattle.std.proofs.Common.{◌≡◌, ◌-◌, length, take, replicate, Ok, refl, ap, ◌∙◌, arith}
+use Rattle.std.proofs.Common.{◌≡◌, ◌-◌, length, take, replicate, Ok, ap, ◌∙◌, arith}
 use Rattle.std.proofs.lemmas.List.{length-replicate, length-take-le}
 use Rattle.suite.specs.Of.{ledger}
 use Rattle.suite.proofs.Compares.{table_rows}
-use Rattle.suite.proofs.Founds.{too_many, all_fit, founded_is, copied_groups, not_fitting, fitting}
+use Rattle.suite.proofs.Founds.{all_fit, founded_is, copied_groups, fitting}
 use Rattle.suite.proofs.found.found.Goals as goal
-
-pub returns-in_default : goal.returns-in_default
-returns-in_default g c =
-    let p = g.P.ReadPlan in
-    let x = c.args.plan.now in
-    let L = ledger p g.P.ChangePlan g.R.Register x c.args.register.now in
-    let s = p.sound x in
-    let few = g.R.Register.few c.args.register.now in
-    let n = c.keys-keys.result in
-    let m = c.spare.result - 0 in
-    let empty : length L.held ≡ 0 = omega (arith, c.count.ensures, c.if-count-gt0.false) in
-    let long : length (take m (replicate 65536 c.default-memory.result)) ≡ L.spare = length-take-le m (replicate 65536 c.default-memory.result) (omega (arith, length-replicate 65536 c.default-memory.result, c.spare.ensures)) ∙ (omega (arith, c.spare.ensures)) in
-    let tr = table_rows (p.keys x) n (p.rows x) c.rows_of-rows.result c.rows_of-rows.ensures.long s.few_keys c.keys-keys.ensures c.rows_of-rows.ensures.rows in
-    record {
-      answer = too_many L empty (not_fitting L empty (take m (replicate 65536 c.default-memory.result)) (take (n - 0) c.rows_of-rows.result) c.doors.result long tr c.doors.ensures c.in_default.ensures);
-      after = refl;
-    }
 
 pub returns : goal.returns
 returns g c =
