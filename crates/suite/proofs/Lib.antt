@@ -1,7 +1,6 @@
 pub mod Batches
 pub mod Compares
 pub mod Fills
-pub mod Finds
 pub mod Founds
 pub mod Judged
 pub mod Made
