@@ -1,4 +1,28 @@
+ghost use Rattle.std.specs.Prelude.{nat_lt};
+ghost use Rattle.std.proofs.Common.{rules};
+
 use pairs::pair::Pair;
+use table::Record;
+
+// A record with no order of its own. In its tables the higher ones come first.
+#[derive(Clone, Copy, PartialEq, Eq, Debug)]
+struct Level {
+    height: u8,
+}
+
+impl Record for Level {
+    ghost before = { λ a b. nat_lt b.height a.height };
+
+    fn less(&self, other: &Level) -> bool {
+        other.height < self.height
+    }
+
+    ghost order = { record { irreflexive = Prim.search rules; transitive = Prim.search rules; total = Prim.search rules } };
+}
+
+fn at_height(height: u8) -> Level {
+    Level { height }
+}
 
 fn pair(key: u8, door: u8) -> Pair {
     Pair { key, door }
@@ -28,4 +52,18 @@ fn puts_in_and_takes_out(rt: HostRuntime) {
     assert!(rt; !table::take_out(&mut rows, 2, 2));
     assert!(rt; !table::take_out(&mut rows, 5, 0));
     assert_eq!(rt; rows, [pair(1, 1), pair(2, 0), pair(2, 0), pair(9, 9)]);
+}
+
+// A table goes by the order that its records name, and asks for no other.
+#[test]
+fn goes_by_the_order_named(rt: HostRuntime) {
+    let mut rows = [at_height(9), at_height(5), at_height(2), at_height(0)];
+    assert_eq!(rt; table::find(&rows, 3, &at_height(9)), Ok(0));
+    assert_eq!(rt; table::find(&rows, 3, &at_height(2)), Ok(2));
+    assert_eq!(rt; table::find(&rows, 3, &at_height(7)), Err(1));
+    assert!(rt; table::put(&mut rows, 3, 1, at_height(7)));
+    assert_eq!(rt;
+        rows,
+        [at_height(9), at_height(7), at_height(5), at_height(2)]
+    );
 }

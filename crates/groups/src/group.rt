@@ -15,5 +15,9 @@ pub struct Group {
 impl Record for Group {
     ghost before = { group_before };
 
-    ghost order = { record { compares = Prim.search rules; irreflexive = Prim.search rules; transitive = Prim.search rules; total = Prim.search rules } };
+    ghost order = { record { irreflexive = Prim.search rules; transitive = Prim.search rules; total = Prim.search rules } };
+
+    fn less(&self, other: &Group) -> bool {
+        self < other
+    }
 }

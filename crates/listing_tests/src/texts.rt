@@ -1,3 +1,5 @@
+ghost use Rattle.std.specs.Prelude.{◌≤◌};
+
 use faults::draft::DraftFault;
 use faults::intake::{IntakeFault, Layer};
 use faults::number::NumberFault;
@@ -7,6 +9,13 @@ use groups::group::Group;
 use listing::line::Line;
 use listing::lines::{bad_size, booked, cut, lapsed_group, new_group, refused};
 use std::process::Abort;
+
+// No line is longer than 48 bytes, and a caller can rely on it.
+fn length(line: Line) -> usize
+    ensures { result ≤ 48 }
+{
+    line.bytes().len()
+}
 
 fn reads(rt: &impl Abort, line: Line, text: &[u8]) {
     assert!(rt; line.bytes() == text);
@@ -86,4 +95,10 @@ fn refusals_tell_what_is_returned(rt: HostRuntime) {
 fn ends_of_the_input(rt: HostRuntime) {
     reads(&rt, bad_size(), b"size\n");
     reads(&rt, cut(), b"cut\n");
+}
+
+#[test]
+fn lines_are_short(rt: HostRuntime) {
+    assert_eq!(rt; length(booked(usize::MAX, usize::MAX)), 45);
+    assert_eq!(rt; length(cut()), 4);
 }

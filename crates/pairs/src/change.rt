@@ -17,5 +17,9 @@ pub struct Change {
 impl Record for Change {
     ghost before = { change_before };
 
-    ghost order = { record { compares = Prim.search rules; irreflexive = Prim.search rules; transitive = change_chain; total = Prim.search rules } };
+    ghost order = { record { irreflexive = Prim.search rules; transitive = change_chain; total = Prim.search rules } };
+
+    fn less(&self, other: &Change) -> bool {
+        self < other
+    }
 }

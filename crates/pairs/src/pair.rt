@@ -15,5 +15,9 @@ pub struct Pair {
 impl Record for Pair {
     ghost before = { pair_before };
 
-    ghost order = { record { compares = Prim.search rules; irreflexive = Prim.search rules; transitive = pair_chain; total = Prim.search rules } };
+    ghost order = { record { irreflexive = Prim.search rules; transitive = pair_chain; total = Prim.search rules } };
+
+    fn less(&self, other: &Pair) -> bool {
+        self < other
+    }
 }

@@ -1,7 +1,7 @@
 -- Lists of pairs, and the rows that they mean.
 use Rattle.std.proofs.Common.{◌≡◌, ℕ, zero, suc, ◌+◌, ◌*◌, ◌%◌, ◌^◌, ◌<◌, ◌≤◌, Bool, true, false, cond, not, ◌&&◌, ◌||◌, ◌==◌, eqb, ltb, List, [], ◌∷◌, map, length, get_or, set, replicate, sym, refl, ap, ◌∙◌, ⊎_elim, arith, rules}
 use lib.Bits.{bit_or}
-use Rattle.std.specs.List.{range_with_len, fold, filter}
+use Rattle.std.specs.List.{range_with_len, fold}
 use Rattle.std.proofs.lemmas.List.{get_or-set_same, get_or-set_other, length-set, ext_get_or}
 use Rattle.std.proofs.lemmas.Bool.{cases_eq, cases_lt, cases_Bool, both_ways, cond_both, cond-true, cond-false, lt-ltb, eqb-false, eq-eqb, ne_eqb, not-true, not_from_false, and_parts, and_from, or_cases, or_left, or_right}
 use Rattle.std.proofs.lemmas.Nat.{one_shl}
@@ -107,13 +107,6 @@ inside_at K D [] i z l a = absurd (omega arith)
 inside_at K D (p ∷ ps) zero z l a = inside_parts K D p.key p.door (and_parts (inside K D p.key p.door) (all_inside K D ps) a).0
 inside_at K D (p ∷ ps) (suc i) z l a = inside_at K D ps i z (omega arith) (and_parts (inside K D p.key p.door) (all_inside K D ps) a).1
 
-pub inside_filtered : (K D : ℕ) (test : Pair → Bool) (ps : List Pair) → all_inside K D ps ≡ true → all_inside K D (filter test ps) ≡ true
-inside_filtered K D test [] a = refl
-inside_filtered K D test (p ∷ ps) a =
-    let s = and_parts (inside K D p.key p.door) (all_inside K D ps) a in
-    let rest = inside_filtered K D test ps s.1 in
-    cond_both (test p) (p ∷ filter test ps) (filter test ps) (λ v. all_inside K D v ≡ true) (λ e. and_from (inside K D p.key p.door) (all_inside K D (filter test ps)) s.0 rest) (λ e. rest)
-
 -- ---- the rows and the list
 row_listed : (K D k d : ℕ) (ps : List Pair) → Has (get_or (rows_of K D ps) k 0) d → listed ps k d ≡ true
 row_listed K D k d ps h = ⊎_elim
@@ -123,11 +116,6 @@ row_listed K D k d ps h = ⊎_elim
 
 pub lies_wide : (p : PairPlan) → all_inside 64 64 (lent_pairs p) ≡ true
 lies_wide p = inside_wide (lent_keys p) (lent_doors p) (lent_pairs p) p.sizes.few_keys p.sizes.few_doors p.lies
-
--- a pair of a plan's that passes a test has numbers below 64
-module _ (p : PairPlan) (test : Pair → Bool) (k : ℕ) (z : Pair) (h : k < length (filter test (lent_pairs p))) where
-  pub passes_low : ((get_or (filter test (lent_pairs p)) k z).key < 64) × ((get_or (filter test (lent_pairs p)) k z).door < 64)
-  passes_low = inside_at 64 64 (filter test (lent_pairs p)) k z h (inside_filtered 64 64 test (lent_pairs p) (lies_wide p))
 
 module _ (K D : ℕ) (ps : List Pair) (lies : all_inside K D ps ≡ true) where
   listed_row : (k d : ℕ) → listed ps k d ≡ true → Has (get_or (rows_of K D ps) k 0) d
@@ -210,14 +198,17 @@ module _ (near far : Pair → ℕ) (n : ℕ) (beside : List Pair → ℕ → Boo
     (none : (i : ℕ) → beside [] i ≡ false)
     (on : (p : Pair) (ps : List Pair) (i : ℕ) → near p ≡ n → beside (p ∷ ps) i ≡ (eqb i (far p) || beside ps i))
     (off : (p : Pair) (ps : List Pair) (i : ℕ) → (near p ≡ n → ⊥) → beside (p ∷ ps) i ≡ beside ps i) where
-  abbrev gather : ℕ → Pair → ℕ
-  gather m p = bit_or m ((1 * 2 ^ far p) % 2 ^ 64)
+  abbrev with_far : ℕ → Pair → ℕ
+  with_far m p = bit_or m ((1 * 2 ^ far p) % 2 ^ 64)
 
-  gather_joined : (m : ℕ) (p : Pair) → far p < 64 → gather m p ≡ joined m (far p)
-  gather_joined m p h = ap (bit_or m) (one_shl (far p) 64 h) ∙ or_joined m (far p)
+  abbrev gather : ℕ → Pair → ℕ
+  gather m p = cond (near p == n) (with_far m p) m
+
+  far_joined : (m : ℕ) (p : Pair) → far p < 64 → with_far m p ≡ joined m (far p)
+  far_joined m p h = ap (bit_or m) (one_shl (far p) 64 h) ∙ or_joined m (far p)
 
   gathered : (m : ℕ) (ps : List Pair) → m < 2 ^ 64 → all_inside 64 64 ps ≡ true
-      → fold gather m (filter (λ p. near p == n) ps) ≡ passing (λ i. has_bit m i || beside ps i) 64
+      → fold gather m ps ≡ passing (λ i. has_bit m i || beside ps i) 64
   gathered m [] l a = same_sets m (passing (λ i. has_bit m i || beside [] i) 64)
       (λ i h. passing_has (λ j. has_bit m j || beside [] j) 64 i (below_has 64 m i l h) (or_left (has_bit m i) (beside [] i) (has_true m i h)))
       (λ i h. ⊎_elim (λ (t : has_bit m i ≡ true). true_has m i t) (λ (t : beside [] i ≡ true). absurd (both_ways (beside [] i) (none i) t))
@@ -225,29 +216,27 @@ module _ (near far : Pair → ℕ) (n : ℕ) (beside : List Pair → ℕ → Boo
   gathered m (p ∷ ps) l a =
       let q = and_parts (inside 64 64 p.key p.door) (all_inside 64 64 ps) a in
       let f = low p q.0 in
-      let taken : List Pair = filter (λ x. near x == n) ps in
       ⊎_elim
       (λ (e : near p ≡ n).
-      ap (fold gather m) (cond-true (near p == n) (p ∷ taken) taken (eq-eqb (near p) n e))
-      ∙ ap (λ (v : ℕ). fold gather v taken) (gather_joined m p f)
+      ap (λ (v : ℕ). fold gather v ps) (cond-true (near p == n) (with_far m p) m (eq-eqb (near p) n e) ∙ far_joined m p f)
       ∙ gathered (joined m (far p)) ps (joined_lt 64 m (far p) l f) q.1
       ∙ passing_same _ _ 64 (λ i. ap (λ b. b || beside ps i) (has_joined m (far p) i) ∙ or_turn (eqb i (far p)) (has_bit m i) (beside ps i) ∙ ap (λ b. has_bit m i || b) (sym (on p ps i e))))
       (λ (e : near p ≡ n → ⊥).
-      ap (fold gather m) (cond-false (near p == n) (p ∷ taken) taken (ne_eqb (near p) n e))
+      ap (λ (v : ℕ). fold gather v ps) (cond-false (near p == n) (with_far m p) m (ne_eqb (near p) n e))
       ∙ gathered m ps l q.1
       ∙ passing_same _ _ 64 (λ i. ap (λ b. has_bit m i || b) (sym (off p ps i e))))
       (cases_eq (near p) n)
 
-  gathered_all : (ps : List Pair) → all_inside 64 64 ps ≡ true → fold gather 0 (filter (λ p. near p == n) ps) ≡ passing (beside ps) 64
+  gathered_all : (ps : List Pair) → all_inside 64 64 ps ≡ true → fold gather 0 ps ≡ passing (beside ps) 64
   gathered_all ps a = gathered 0 ps (omega arith) a ∙ passing_same _ _ 64 (λ i. ap (λ (v : ℕ). (v == 1) || beside ps i) (bit_zero i))
 
-pub doors_gathered : (k : ℕ) (ps : List Pair) → all_inside 64 64 ps ≡ true → fold (λ m p. bit_or m ((1 * 2 ^ p.door) % 2 ^ 64)) 0 (filter (λ p. p.key == k) ps) ≡ doors_in k ps
+pub doors_gathered : (k : ℕ) (ps : List Pair) → all_inside 64 64 ps ≡ true → fold (λ m p. cond (p.key == k) (bit_or m ((1 * 2 ^ p.door) % 2 ^ 64)) m) 0 ps ≡ doors_in k ps
 unfolding doors_in
 doors_gathered k = gathered_all (λ p. p.key) (λ p. p.door) k (λ ps d. listed ps k d) (λ p i. (inside_parts 64 64 p.key p.door i).1) (λ i. refl)
     (λ p ps d e. ap (λ b. b || listed ps k d) (tied_door k d p e))
     (λ p ps d e. ap (λ b. b || listed ps k d) (apart_key k d p e))
 
-pub keys_gathered : (d : ℕ) (ps : List Pair) → all_inside 64 64 ps ≡ true → fold (λ m p. bit_or m ((1 * 2 ^ p.key) % 2 ^ 64)) 0 (filter (λ p. p.door == d) ps) ≡ keys_in d ps
+pub keys_gathered : (d : ℕ) (ps : List Pair) → all_inside 64 64 ps ≡ true → fold (λ m p. cond (p.door == d) (bit_or m ((1 * 2 ^ p.key) % 2 ^ 64)) m) 0 ps ≡ keys_in d ps
 unfolding keys_in
 keys_gathered d = gathered_all (λ p. p.door) (λ p. p.key) d (λ ps k. listed ps k d) (λ p i. (inside_parts 64 64 p.key p.door i).0) (λ i. refl)
     (λ p ps k e. ap (λ b. b || listed ps k d) (tied_key k d p e))

@@ -57,18 +57,24 @@ impl<'a> ReadPlan for PairPlan<'a> {
 
     fn doors_of(&self, key: KeyNo) -> u64 {
         let key = u8::from(key);
-        self.pairs()
-            .iter()
-            .filter(|pair| pair.key == key)
-            .fold(0, |doors, pair| doors | 1 << pair.door)
+        self.pairs().iter().fold(0, |doors, pair| {
+            if pair.key == key {
+                doors | 1 << pair.door
+            } else {
+                doors
+            }
+        })
     }
 
     fn keys_of(&self, door: DoorNo) -> u64 {
         let door = u8::from(door);
-        self.pairs()
-            .iter()
-            .filter(|pair| pair.door == door)
-            .fold(0, |keys, pair| keys | 1 << pair.key)
+        self.pairs().iter().fold(0, |keys, pair| {
+            if pair.door == door {
+                keys | 1 << pair.key
+            } else {
+                keys
+            }
+        })
     }
 }
 

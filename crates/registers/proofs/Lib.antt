@@ -3,4 +3,3 @@ pub mod Lines
 pub mod Rewrites
 pub mod Runs
 pub mod Suffices
-pub mod Searches

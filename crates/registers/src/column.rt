@@ -11,14 +11,28 @@ ghost use Rattle.registers.specs.Lines.{calls, column};
 use crate::line::{Call, Line};
 use groups::group::Group;
 use std::mem;
+use table::Record;
 
-// Where the record stands beside the first `count` lines, or where it would go.
+// Where the record stands beside the first `count` lines, or where it would go. By hand, as in `table::find`.
 pub(crate) fn find(rows: &[Line], count: usize, record: Group) -> Result<usize, usize>
     requires within { count ≤ length rows.now }
     requires ascends { Ascends group_before (column rows.now) count }
     ensures { result ≡ placed group_before «record» (take count (column rows.now)) }
 {
-    rows[..count].binary_search_by_key(&record, |line| line.held)
+    let mut low = 0;
+    let mut high = count;
+    while low < high {
+        let mid = low + (high - low) / 2;
+        let held = rows[mid].held;
+        if held.less(&record) {
+            low = mid + 1;
+        } else if record.less(&held) {
+            high = mid;
+        } else {
+            return Ok(mid);
+        }
+    }
+    Err(low)
 }
 
 // Puts the record beside the line at `at`, and moves what stands from there up to `count` up by one.

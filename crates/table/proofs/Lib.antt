@@ -2,6 +2,5 @@ pub mod Shifts
 pub mod SetLaws
 pub mod Ups
 pub mod Places
-pub mod Halving
 pub mod Members
 pub mod Alls

@@ -1,10 +1,10 @@
 -- Where a record stands or goes among ascending rows, by how many are before it.
-use Rattle.std.proofs.Common.{◌≡◌, ℕ, zero, suc, ◌<◌, ◌≤◌, min, Bool, true, false, cond, ◌||◌, List, [], ◌∷◌, length, get_or, take, Some, Ok, Err, sym, refl, ap, ◌∙◌, ⊎_elim, arith}
+use Rattle.std.proofs.Common.{◌≡◌, ℕ, zero, suc, ◌+◌, ◌<◌, ◌≤◌, min, Bool, true, false, cond, ◌||◌, List, [], ◌∷◌, length, get_or, take, Some, Ok, Err, sym, refl, ap, ◌∙◌, ⊎_elim, arith}
 use Rattle.std.proofs.lemmas.List.{get_or-take, length-take-le, take_all}
 use Rattle.std.proofs.lemmas.Bool.{cases_Bool, cases_lt, cond-true, cond-false}
 use Rattle.table.specs.Rows.{Ascends, FoundAt, GoesAt}
 use Rattle.table.specs.Sets.{tied, has, rank, one, placed}
-use Rattle.table.proofs.Shifts.{far}
+use Rattle.table.proofs.Shifts.{far, low_more, high_more}
 use Rattle.table.proofs.SetLaws.{asym, found_has, goes_lacks}
 use Rattle.table.proofs.Ups.{Below, Up, ascends_up, rank_nth}
 use Rattle.std.specs.List.{slice_get}
@@ -149,6 +149,13 @@ module _ {X : Type 0} (lt : X → X → Bool)
     (xs : List X) (count : ℕ) (x : X) where
   ascends_min : Ascends lt xs count → Ascends lt xs (min count (length xs))
   ascends_min asc k d h = asc k d (omega arith)
+
+  module _ (mid : ℕ) (row : X) (inside : mid < count) (within : mid < length xs) (is : row ≡ get_or xs mid row) where
+    pub lower : lt row x ≡ true → Ascends lt xs count → (k : ℕ) (d : X) → k < mid + 1 → lt (get_or xs k d) x ≡ true
+    lower t asc = low_more lt chain xs (min count (length xs)) mid x row (ascends_min asc) (omega arith) (omega arith) is t
+
+    pub higher : lt x row ≡ true → Ascends lt xs count → (k : ℕ) (d : X) → mid ≤ k → k < count → k < length xs → lt x (get_or xs k d) ≡ true
+    higher t asc k d h l m = high_more lt chain xs (min count (length xs)) mid x row (ascends_min asc) (omega arith) (omega arith) is t k d h (omega arith)
 
   pub found_here : (i : ℕ) → FoundAt xs count x i → i < length xs → Ascends lt xs count → Ok i ≡ placed lt x (take count xs)
   found_here i f l asc = sym (ap (placed lt x) (sym (take_min count xs)) ∙ found_placed lt irr chain xs (min count (length xs)) x (omega arith) i (ascends_min asc) (let h = f.0 in omega arith, f.1))

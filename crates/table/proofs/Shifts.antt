@@ -1,7 +1,7 @@
 -- Rows moved by one place up or down, and rows that ascend.
 use Rattle.std.proofs.Common.{◌≡◌, ◌∙◌, ap, ℕ, zero, suc, ◌+◌, ◌-◌, ◌<◌, ◌≤◌, Bool, true, List, ◌++◌, length, get_or, take, drop, set, arith, rules}
 use Rattle.std.specs.List.{insert, remove, CopiedTo, SameBelow, SameFrom}
-use Rattle.std.proofs.lemmas.List.{places, same_lists, get_or-set_same}
+use Rattle.std.proofs.lemmas.List.{places, get_or_read, same_lists, get_or-set_same}
 use Rattle.table.specs.Rows.{Ascends, GoesAt, with_row, without_row}
 use Rattle.std.proofs.lemmas.Bool.{cases_eq}
 
@@ -62,3 +62,19 @@ rest_ascends lt chain xs n at h m asc i d b =
     let s1 = asc i d in let s2 = asc (i + 1) d in
     let t = chain (get_or xs i d) (get_or xs (i + 1) d) (get_or xs (i + 1 + 1) d) in
     grind (arith, places)
+
+-- The row at `mid` is before x, so each up to it is.
+pub low_more : {X : Type 0} (lt : X → X → Bool) (chain : (x y z : X) → lt x y ≡ true → lt y z ≡ true → lt x z ≡ true)
+    (xs : List X) (n mid : ℕ) (x row : X) → Ascends lt xs n → mid < n → n ≤ length xs → row ≡ get_or xs mid row → lt row x ≡ true
+    → (k : ℕ) (d : X) → k < mid + 1 → lt (get_or xs k d) x ≡ true
+low_more lt chain xs n mid x row asc m b r t k d h =
+    let e : row ≡ get_or xs mid d = get_or_read xs mid row (omega arith) r d in
+    let c = cases_eq k mid in let a = far lt chain xs n asc k mid d in let s = chain (get_or xs k d) (get_or xs mid d) x in grind arith
+
+-- x is before the row at `mid`, so before each from there on.
+pub high_more : {X : Type 0} (lt : X → X → Bool) (chain : (x y z : X) → lt x y ≡ true → lt y z ≡ true → lt x z ≡ true)
+    (xs : List X) (n mid : ℕ) (x row : X) → Ascends lt xs n → mid < n → n ≤ length xs → row ≡ get_or xs mid row → lt x row ≡ true
+    → (k : ℕ) (d : X) → mid ≤ k → k < n → lt x (get_or xs k d) ≡ true
+high_more lt chain xs n mid x row asc m b r t k d h l =
+    let e : row ≡ get_or xs mid d = get_or_read xs mid row (omega arith) r d in
+    let c = cases_eq k mid in let a = far lt chain xs n asc mid k d in let s = chain x (get_or xs mid d) (get_or xs k d) in grind arith

@@ -1,13 +1,10 @@
 -- What an order of records is to be, and what sorting means: the sorted list ascends, and has the records of the list and no others; and it is the only such list.
 use Rattle.std.specs.Prelude.{◌≡◌, Bool, true, false, List, length}
-use Rattle.std.specs.Ordering.{is_lt}
-use Rattle.std.specs.declared.cmp.Ordering.{Ordering}
 use Rattle.table.specs.Rows.{Ascends}
 use Rattle.table.specs.Sets.{has, sorted}
 
--- `before` is the test of the order `cmp`, and it is total: of two records that are not the same, one is before the other
-pub record TotalOrder {X : Type 0} (before : X → X → Bool) (cmp : X → X → Ordering) : Type 0 where
-  pub compares : (x y : X) → before x y ≡ is_lt (cmp x y)
+-- `before` is the test of an order, which is total: of two records that are not the same, one is before the other
+pub record TotalOrder {X : Type 0} (before : X → X → Bool) : Type 0 where
   pub irreflexive : (x : X) → before x x ≡ false
   pub transitive : (x y z : X) → before x y ≡ true → before y z ≡ true → before x z ≡ true
   pub total : (x y : X) → before x y ≡ false → before y x ≡ false → x ≡ y

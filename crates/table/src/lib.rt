@@ -7,21 +7,38 @@ ghost use Rattle.table.specs.Laws.{Sorting, TotalOrder};
 ghost use Rattle.table.specs.Rows.{Ascends, FoundAt, with_row, without_row};
 ghost use Rattle.table.specs.Sets.{placed, entered, struck};
 
-// A kind of record. Its tables ascend by its order, which is total.
-pub trait Record: Copy + Ord {
+// A kind of record, with the order that its tables ascend by, which is total. It may be another than the type's own `Ord`, and none is needed.
+pub trait Record: Copy {
     // the order as a test
     ghost before: { Self → Self → Bool };
 
-    ghost order: { TotalOrder before Self.cmp };
+    fn less(&self, other: &Self) -> bool
+        ensures { result ≡ before self.now other.now };
+
+    ghost order: { TotalOrder before };
 }
 
 // Where `x` stands among the first `count` rows, or where it would go. A count past the memory's end counts as its length.
 // Rows that do not ascend leave the answer open, but it lies among them, and what it says it found stands there.
+// By hand, since the library's searches halve on to the end where `x` was met at once.
 pub fn find<T: Record>(rows: &[T], count: usize, x: &T) -> Result<usize, usize>
     ensures value { Ascends T.before rows.now count → result ≡ placed T.before x.now (take count rows.now) }
     ensures inside { MatchResult result (λ i. FoundAt rows.now count x.now i × (i < length rows.now)) (λ i. (i ≤ count) × (i ≤ length rows.now)) }
 {
-    rows[..count.min(rows.len())].binary_search(x)
+    let mut low = 0;
+    let mut high = count.min(rows.len());
+    while low < high {
+        let mid = low + (high - low) / 2;
+        let row = rows[mid];
+        if row.less(x) {
+            low = mid + 1;
+        } else if x.less(&row) {
+            high = mid;
+        } else {
+            return Ok(mid);
+        }
+    }
+    Err(low)
 }
 
 // Writes `x` at `at`, and moves the rows from there up to `count` up by one. False, and nothing done, where `at` is
